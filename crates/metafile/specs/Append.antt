@@ -10,7 +10,7 @@ use Rattle.metafile.specs.declared.Row.{Row}
 use Rattle.metafile.specs.declared.Description.{Description}
 use Rattle.metafile.specs.Bytes.{all, nonZero, same, member, find}
 use Rattle.metafile.specs.Fields.{digitsOf, padded, known}
-use Rattle.metafile.specs.Lines.{BIN, Kind, count, text, date, offset, serial, word, stamp, free, lf, linesOf, write, formed, timeStandard, eventSynch, contentLength}
+use Rattle.metafile.specs.Lines.{BIN, Kind, count, text, date, offset, serial, word, strategy, stamp, free, lf, linesOf, write, formed, timeStandard, eventSynch, contentLength}
 use Rattle.metafile.specs.Closing.{Integrity, integrityLines, integrityValues, closingBytes}
 use Rattle.metafile.specs.Header.{isLLC, markOf}
 use Rattle.metafile.specs.Chunk.{givenLines, head, dependencyFields, dependencyLengthFor, headerLengthFor, multiName, subFormat}
@@ -39,6 +39,7 @@ serialWords date = []
 serialWords offset = []
 serialWords serial = []
 serialWords (word ws) = []
+serialWords strategy = []
 serialWords (stamp frees serials) = serials
 serialWords (free n) = []
 

@@ -19,7 +19,7 @@ pub record BeginGiven : Type 0 where
   pub integrity : Integrity
 
 unfoldable pub titleValues : BeginGiven → List (List ℕ)
-titleValues b = b .strategy ∷ digitsOf 3 (length (b .mark)) ∷ []
+titleValues b = [] ∷ (b .strategy ++ digitsOf 3 (length (b .mark))) ∷ []
 
 -- the 65 bytes, then the closing that is summed over them
 unfoldable pub titleBytes : BeginGiven → List ℕ

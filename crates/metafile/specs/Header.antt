@@ -6,20 +6,13 @@ use lib.Dec.{eqb}
 use lib.ListN.{length, take, drop}
 use Rattle.metafile.specs.Bytes.{bytes, part, _⊳_, require, isZero, same, starts}
 use Rattle.metafile.specs.Fields.{countValue}
-use Rattle.metafile.specs.Lines.{LLC, NUL, Kind, count, word, Field, fixed, value, lf, run, fieldFault}
+use Rattle.metafile.specs.Lines.{LLC, Field, linesOf, run, fieldFault, formatID, separatorStrategy}
 use Rattle.metafile.specs.Closing.{closing, closingEnd, sumGood}
 use Rattle.metafile.specs.Multi.{miniLabel}
 
 -- ""Format_ID=Ancillary Data Standard 1.00" LF, "Separator_Strategy=", LLC or NUL, I3 mark length, LF: 65 bytes."
 unfoldable pub title : List Field
-title =
-    fixed (bytes "Format_ID=Ancillary Data Standard 1.00")
-    ∷ lf
-    ∷ fixed (bytes "Separator_Strategy=")
-    ∷ value (word (LLC ∷ NUL ∷ []))
-    ∷ value (count 3 999)
-    ∷ lf
-    ∷ []
+title = linesOf (formatID ∷ separatorStrategy ∷ [])
 
 unfoldable pub isLLC : List ℕ → Bool
 isLLC file = same (part 58 3 file) LLC

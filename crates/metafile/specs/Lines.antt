@@ -8,6 +8,40 @@ use lib.ListN.{length, take, drop}
 use Rattle.metafile.specs.Bytes.{bytes, _⊳_, require, all, same, member}
 use Rattle.metafile.specs.Fields.{isCount, countValue, isText, isDate, isOffset, isSerial}
 
+-- ---- the listed words
+
+abbrev pub LLC : List ℕ
+LLC = bytes "LLC"
+
+abbrev pub NUL : List ℕ
+NUL = bytes "NUL"
+
+abbrev pub BIN : List ℕ
+BIN = bytes "BIN"
+
+abbrev pub TXT : List ℕ
+TXT = bytes "TXT"
+
+abbrev pub GEN : List ℕ
+GEN = bytes "GEN"
+
+abbrev pub SPE : List ℕ
+SPE = bytes "SPE"
+
+abbrev pub UTC : List ℕ
+UTC = bytes "UTC"
+
+abbrev pub ALT : List ℕ
+ALT = bytes "ALT"
+
+abbrev pub SLV : List ℕ
+SLV = bytes "SLV"
+
+abbrev pub MAS : List ℕ
+MAS = bytes "MAS"
+
+-- ---- fields
+
 -- what a value may be
 pub data Kind : Type 0 where
   count : ℕ → ℕ → Kind  -- In: so many bytes, at most so much
@@ -16,6 +50,7 @@ pub data Kind : Type 0 where
   offset : Kind
   serial : Kind
   word : List (List ℕ) → Kind  -- one of these listed words, of three bytes each
+  strategy : Kind  -- LLC or NUL, I3 mark length
   stamp : List (List ℕ) → List (List ℕ) → Kind  -- a listed word, then 38 bytes: free after the first words, a serial number after the others
   free : ℕ → Kind  -- so many bytes of any value
 
@@ -70,6 +105,7 @@ width date = 8
 width offset = 16
 width serial = 38
 width (word ws) = 3
+width strategy = 6
 width (stamp frees serials) = 41
 width (free n) = n
 
@@ -81,6 +117,7 @@ kindFault date s = fieldFault 8 dateFault s
 kindFault offset s = fieldFault 16 offsetFault s
 kindFault serial s = fieldFault 38 serialFault s
 kindFault (word ws) s = fieldFault 3 (wordFault ws) s
+kindFault strategy s = fieldFault 3 (wordFault (LLC ∷ NUL ∷ [])) s ⊳ fieldFault 3 (countFault 999) (drop 3 s)
 kindFault (stamp frees serials) s =
     fieldFault 3 (wordFault (frees ++ serials)) s ⊳ fieldFault 38 (stampFault serials (take 3 s)) (drop 3 s)
 kindFault (free n) s = fieldFault n freeFault s
@@ -129,38 +166,6 @@ write (f ∷ fs) vs = put f vs ++ write fs (left f vs)
 unfoldable pub formed : List Field → List (List ℕ) → Bool
 formed [] vs = true
 formed (f ∷ fs) vs = eqb (length (put f vs)) (fieldWidth f) && eqb (fault f (put f vs)) 0 && formed fs (left f vs)
-
--- ---- the listed words
-
-abbrev pub LLC : List ℕ
-LLC = bytes "LLC"
-
-abbrev pub NUL : List ℕ
-NUL = bytes "NUL"
-
-abbrev pub BIN : List ℕ
-BIN = bytes "BIN"
-
-abbrev pub TXT : List ℕ
-TXT = bytes "TXT"
-
-abbrev pub GEN : List ℕ
-GEN = bytes "GEN"
-
-abbrev pub SPE : List ℕ
-SPE = bytes "SPE"
-
-abbrev pub UTC : List ℕ
-UTC = bytes "UTC"
-
-abbrev pub ALT : List ℕ
-ALT = bytes "ALT"
-
-abbrev pub SLV : List ℕ
-SLV = bytes "SLV"
-
-abbrev pub MAS : List ℕ
-MAS = bytes "MAS"
 
 -- ---- the table of lines
 
@@ -250,6 +255,13 @@ writingAgent = record { label = bytes "Chunk_Writing_Agent="; kind = text 32 }
 unfoldable pub checksum : Line
 checksum = record { label = bytes "Chunk_Integrity_Checksum="; kind = count 3 255 }
 
+-- ""Format_ID=Ancillary Data Standard 1.00" LF": a label and no value
+unfoldable pub formatID : Line
+formatID = record { label = bytes "Format_ID=Ancillary Data Standard 1.00"; kind = text 0 }
+
+unfoldable pub separatorStrategy : Line
+separatorStrategy = record { label = bytes "Separator_Strategy="; kind = strategy }
+
 -- "the four time and event lines"
 unfoldable pub timeAndEvent : List Line
 timeAndEvent = timeSynchType ∷ timeStandard ∷ timeOffset ∷ eventSynch ∷ []
@@ -279,4 +291,6 @@ table =
     ∷ writingDate
     ∷ writingAgent
     ∷ checksum
+    ∷ formatID
+    ∷ separatorStrategy
     ∷ []

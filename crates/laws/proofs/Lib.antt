@@ -1,0 +1,20 @@
+-- First      tests, and the first fault of stages in a row
+-- Lists      equal bytes, tests over all bytes, parts, members
+-- Digits     a number in n digits is read back
+-- Zero       what holds no zero byte: digits, text, date, offset, serial number
+-- Table      the field rule, and the laws of a run over a stretch of fields: enough, local, zero-free, round trip
+-- Loops      what loops over bytes need
+-- Distances  sizes of the stretches, and the distances at which values are read
+-- Closed     a closing that was written is read back
+-- Accepted   what an accepted call says of its tests
+-- Begun      what begin wrote reads cleanly
+pub mod First
+pub mod Lists
+pub mod Digits
+pub mod Zero
+pub mod Table
+pub mod Loops
+pub mod Distances
+pub mod Closed
+pub mod Accepted
+pub mod Begun
