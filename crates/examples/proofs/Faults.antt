@@ -218,10 +218,10 @@ pub number-10-full :
 unfolding texts lentRow emptyRow
 number-10-full = refl
 
--- with a row it is read whole: "Clean means number 0 and stop at the file's end."
+-- with one row it is read whole, though no row is left: "Clean means number 0 and stop at the file's end."
 pub number-0 :
-    read file10 (lentRow ∷ lentRow ∷ [])
-    ≡ record { answer = record { count = 1; stop = 1175; good = true; number = 0 }; table = emptyRow ∷ lentRow ∷ [] }
+    read file10 (lentRow ∷ [])
+    ≡ record { answer = record { count = 1; stop = 1175; good = true; number = 0 }; table = emptyRow ∷ [] }
 unfolding texts lentRow emptyRow file10
 number-0 = refl
 

@@ -1,6 +1,7 @@
 -- "Fields are read in file order: 4 if the bytes end inside a field, else its own fault.": the numbers of files that end
 -- just behind a fault, or inside the field that has it. Assumes nothing.
 use Prim.Native.Nat.{ℕ}
+use Prim.Native.String.{String}
 use mathlib.Core.Path.{_≡_, refl}
 use mathlib.Core.List.{List, [], _∷_, _++_}
 use lib.ListN.{take, replicate}
@@ -12,9 +13,16 @@ use Rattle.examples.proofs.Texts.{titleText, headerLLC, testFormat, mul
 unfoldable pub numberOf : List ℕ → ℕ
 numberOf s = reading (headerLLC ++ s) .number
 
--- a type with a short ID of ten bytes
+-- a type, its short ID is A
 unfoldable pub typeA : List ℕ
 typeA = typeText "000000000484" testFormat (bytes "A         ")
+
+-- a MultiChunk up to its first type, with this header length and type count; one up to its first mini-chunk
+unfoldable pub multiUpTo : String → String → List ℕ
+multiUpTo multiLength count = plainHeader multiFormat ++ multiText multiLength count
+
+unfoldable pub oneType : List ℕ
+oneType = multiUpTo "000000000545" "0001" ++ typeA
 
 pub record ReadOrder : Type 0 where
   -- "The first 65 bytes are one field"
@@ -37,27 +45,27 @@ pub record ReadOrder : Type 0 where
   -- "Under LLC 0 is refused (7)."
   pub content-0 : numberOf (plainHeader testFormat ++ bytes "Chunk_Content_Length=000000000000") ≡ 7
   pub content-1 : numberOf (plainHeader testFormat ++ bytes "Chunk_Content_Length=000000000001") ≡ 4
-  -- "MiniChunk_Type_Count= I4 from 1 to 64"
-  pub types-0 : numberOf (plainHeader multiFormat ++ take 64 (multiText "000000000545" "0000")) ≡ 7
-  pub types-64 : numberOf (plainHeader multiFormat ++ take 64 (multiText "000000000545" "0064")) ≡ 4
-  pub types-65 : numberOf (plainHeader multiFormat ++ take 64 (multiText "000000000545" "0065")) ≡ 7
+  -- "MiniChunk_Type_Count= I4 from 1 to 64": the file ends at its last digit
+  pub types-0 : numberOf (take 632 (multiUpTo "000000000545" "0000")) ≡ 7
+  pub types-64 : numberOf (take 632 (multiUpTo "000000000545" "0064")) ≡ 4
+  pub types-65 : numberOf (take 632 (multiUpTo "000000000545" "0065")) ≡ 7
   -- "length 484 + s"
-  pub type-483 : numberOf (plainHeader multiFormat ++ multiText "000000000545" "0001" ++ bytes "SubType_Header_Length=000000000483") ≡ 7
+  pub type-483 : numberOf (multiUpTo "000000000545" "0001" ++ bytes "SubType_Header_Length=000000000483") ≡ 7
   -- "Multi_Chunk_Header_Length at the last SubType_Header_Length": not at the first of two
-  pub first-type : numberOf (plainHeader multiFormat ++ multiText "000000000545" "0002" ++ take 34 typeA) ≡ 4
-  pub last-type : numberOf (plainHeader multiFormat ++ multiText "000000000545" "0002" ++ typeA ++ take 34 typeA) ≡ 7
+  pub first-type : numberOf (multiUpTo "000000000545" "0002" ++ take 34 typeA) ≡ 4
+  pub last-type : numberOf (multiUpTo "000000000545" "0002" ++ typeA ++ take 34 typeA) ≡ 7
   -- "8 short ID twice or undeclared": before the LF behind it, before the I12 behind it
-  pub short-ID-twice : numberOf (plainHeader multiFormat ++ multiText "000000001063" "0002" ++ typeA ++ take 334 typeA) ≡ 8
-  pub undeclared : numberOf (plainHeader multiFormat ++ multiText "000000000545" "0001" ++ typeA ++ bytes "MiniChunk=B         ") ≡ 8
+  pub short-ID-twice : numberOf (multiUpTo "000000001063" "0002" ++ typeA ++ take 334 typeA) ≡ 8
+  pub undeclared : numberOf (oneType ++ bytes "MiniChunk=B         ") ≡ 8
   -- "Where the first must stand, fewer than 10 bytes left are 4, other bytes 8."
-  pub mini-9 : numberOf (plainHeader multiFormat ++ multiText "000000000545" "0001" ++ typeA ++ replicate 9 7) ≡ 4
-  pub mini-10 : numberOf (plainHeader multiFormat ++ multiText "000000000545" "0001" ++ typeA ++ replicate 10 7) ≡ 8
+  pub mini-9 : numberOf (oneType ++ replicate 9 7) ≡ 4
+  pub mini-10 : numberOf (oneType ++ replicate 10 7) ≡ 8
   -- behind the first other bytes are no mini-chunk, so the closing stands there: with no mark its first label, 20 bytes
-  pub mini-19 : numberOf (plainHeader multiFormat ++ multiText "000000000545" "0001" ++ typeA ++ bytes "MiniChunk=A         000000000001x" ++ replicate 19 7) ≡ 4
-  pub mini-20 : numberOf (plainHeader multiFormat ++ multiText "000000000545" "0001" ++ typeA ++ bytes "MiniChunk=A         000000000001x" ++ replicate 20 7) ≡ 5
+  pub mini-19 : numberOf (oneType ++ bytes "MiniChunk=A         000000000001x" ++ replicate 19 7) ≡ 4
+  pub mini-20 : numberOf (oneType ++ bytes "MiniChunk=A         000000000001x" ++ replicate 20 7) ≡ 5
 
 pub read-order : ReadOrder
-unfolding texts numberOf typeA
+unfolding texts numberOf typeA multiUpTo oneType
 read-order =
     record {
       title-64 = refl;

@@ -11,9 +11,10 @@ use Rattle.metafile.specs.declared.Text256.{Text256}
 use Rattle.metafile.specs.declared.Text32.{Text32}
 use Rattle.metafile.specs.declared.Description.{Description}
 use Rattle.metafile.specs.Bytes.{bytes}
+use Rattle.metafile.specs.Reading.{reading}
 use Rattle.metafile.specs.Answers.{refused}
 use Rattle.metafile.specs.Begin.{begin}
-use Rattle.metafile.specs.Append.{Given, append}
+use Rattle.metafile.specs.Append.{Given, noRow, parentsWrong, append}
 use Rattle.metafile.proofs.Samples.{text256, text32, toBegin, toAppend}
 use Rattle.examples.proofs.Texts.{serial7, serial42, serial43, integrityText, titleText, headerLLC, headerABAB, testFormat, plainHeader, contentText, chunkABC, texts}
 
@@ -106,6 +107,17 @@ pub refused-13-twice :
 unfolding texts descriptionOf givenOf agent testText
 refused-13-twice = refl
 
+-- 16 parents may be named, 17 not, though all are in the reading; this is append's own test of them
+pub parents-16 :
+    parentsWrong (replicate 17 noRow) (0 ∷ 1 ∷ 2 ∷ 3 ∷ 4 ∷ 5 ∷ 6 ∷ 7 ∷ 8 ∷ 9 ∷ 10 ∷ 11 ∷ 12 ∷ 13 ∷ 14 ∷ 15 ∷ []) ≡ false
+unfolding texts
+parents-16 = refl
+
+pub parents-17 :
+    parentsWrong (replicate 17 noRow) (0 ∷ 1 ∷ 2 ∷ 3 ∷ 4 ∷ 5 ∷ 6 ∷ 7 ∷ 8 ∷ 9 ∷ 10 ∷ 11 ∷ 12 ∷ 13 ∷ 14 ∷ 15 ∷ 16 ∷ []) ≡ true
+unfolding texts
+parents-17 = refl
+
 -- "9 whole chunk, serial already in a row; also append"
 pub refused-9 :
     append (headerLLC ++ chunkABC ++ replicate 1000 7) 1178 (toAppend (bytes serial42) (bytes "abc") false)
@@ -113,7 +125,11 @@ pub refused-9 :
 unfolding texts
 refused-9 = refl
 
--- "15 begin, append: mark has a zero byte"
+-- "The mark is that many bytes of any value."; "15 begin, append: mark has a zero byte"
+pub zero-mark : reading headerZero ≡ record { rows = []; stop = 321; good = true; number = 0 }
+unfolding texts headerZero
+zero-mark = refl
+
 pub refused-15 :
     append (headerZero ++ replicate 1000 7) 321 (toAppend (bytes serial42) (bytes "abc") false)
     ≡ record { answer = refused 15; buffer = headerZero ++ replicate 1000 7 }

@@ -108,9 +108,15 @@ second = 10 ^ 10
 unfoldable pub decimalUnits : List ℕ → ℕ
 decimalUnits v = number (digitsBefore v ++ digitsBehind v) * 10 ^ (10 - length (digitsBehind v))
 
+abbrev pub plus : List ℕ
+plus = bytes "+"
+
+abbrev pub minus : List ℕ
+minus = bytes "-"
+
 unfoldable pub isOffset : List ℕ → Bool
 isOffset v =
-    member (part 0 1 v) (bytes "+" ∷ bytes "-" ∷ [])
+    member (part 0 1 v) (plus ∷ minus ∷ [])
     && digitsTo 23 (part 1 2 v)
     && digitsTo 59 (part 3 2 v)
     && isDecimal (part 5 11 v)
@@ -121,7 +127,7 @@ offsetUnits v = (number (part 1 2 v) * 3600 + number (part 3 2 v) * 60) * second
 
 -- "The offset's value is signed, in units of 10^-10 second; minus zero is 0."
 unfoldable pub offsetValue : List ℕ → ℤ
-offsetValue v = cond (same (part 0 1 v) (bytes "-")) (negℤ (pos (offsetUnits v))) (pos (offsetUnits v))
+offsetValue v = cond (same (part 0 1 v) minus) (negℤ (pos (offsetUnits v))) (pos (offsetUnits v))
 
 -- ---- "Serial number, 38 bytes: "#", date, I2 hour to 23, I2 minute and I2 second to 59, I3 millisecond, A12
 -- processor, I5 random to 65535, I3 check. The check is the first 35 bytes added byte by byte, modulo 256."
