@@ -1,5 +1,5 @@
--- What a power cut leaves of an append. Assumed of the disk: each write is on it before the next begins; of the write
--- that was cut, blocks of 512 bytes are there as written or as zeros; bytes of earlier writes stay. Assumes nothing.
+-- What a power cut leaves of an append. It says of the disk: each write is on it before the next begins; of the write
+-- that was cut a first part is there, in which blocks of 512 bytes may be lost as zeros; all earlier bytes stay.
 use Prim.Native.Nat.{ℕ, suc, _-_, _/_}
 use mathlib.Core.Bool.{Bool, cond}
 use mathlib.Core.List.{List, [], _∷_, _++_}

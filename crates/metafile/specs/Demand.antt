@@ -1,5 +1,5 @@
 -- Demand 3, as one proposition over the defined values of append, read and parent: what the reading gives after power
--- fails in an accepted append. Cut.antt has the assumptions on the disk. Assumes nothing.
+-- fails in an accepted append. Cut.antt says what of the disk.
 use Prim.Native.Nat.{ℕ, zero, suc, _+_, _*_, _<_}
 use mathlib.Core.Bool.{Bool, true, false}
 use mathlib.Core.Path.{_≡_}
@@ -48,7 +48,7 @@ unfoldable pub integrityAt : ℕ → List ℕ → ℕ → ℕ → List ℕ → L
 integrityAt c m d w s = part (c + length m + d) w s
 
 -- "Its lines hold the fields given": the lines of the chunk at the old end, each at its distance from there, and
--- those of the closing at theirs. "the specific data given stand byte for byte as the header's last s bytes, the data
+-- those of the closing at theirs (its labels are there, since the chunk is read as a row). "the specific data given stand byte for byte as the header's last s bytes, the data
 -- from the contents place; and parent answers its dependency j with the row named as parent j, both from 0,
 -- sub-formats agreeing."
 pub record HandedIn (old : List ℕ) (g : Given) (e₁ e₂ : ℕ) (file : List ℕ) (chunk : List ℕ) : Type 0 where

@@ -1,0 +1,14 @@
+-- Bools      truth values
+-- Prefix     the longest beginning of bytes that pass a test
+-- Digits     numbers in digits
+-- Calendar   the days of a month
+-- Decimal    the parts of a decimal, and its value
+-- Same       bytes compared and copied
+-- Offset     time offsets: the sign, the tests, the value
+pub mod Bools
+pub mod Prefix
+pub mod Digits
+pub mod Calendar
+pub mod Decimal
+pub mod Same
+pub mod Offset

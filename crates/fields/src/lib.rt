@@ -1,0 +1,25 @@
+// The text fields of the metafile, judged and valued on slices: number fields, counts, texts, dates, offsets and
+// serial numbers, as the scope paper has them under "Text fields". A test answers yes or no, a value is total on the
+// bytes that its contract asks for, and each contract equates the answer with the definition of that name in the
+// metafile crate (specs/Fields). Tests are joined by & and |: all are made, with no branch between them.
+// It rests on `sums` for the serial number's check.
+//     numbers   digits, number fields, counts, texts
+//     dates     dates
+//     offsets   time offsets and their values
+//     serials   serial numbers: judged, compared, taken out of a slice
+mod dates;
+mod numbers;
+mod offsets;
+mod serials;
+
+pub use dates::is_date;
+pub use numbers::count_value;
+pub use numbers::is_count;
+pub use numbers::is_digits;
+pub use numbers::is_text;
+pub use numbers::number;
+pub use offsets::is_offset;
+pub use offsets::offset_value;
+pub use serials::is_serial;
+pub use serials::same_serial;
+pub use serials::serial_from;

@@ -1,0 +1,91 @@
+// Number fields, counts and texts: "A number field In is n digits 0 to 9. A text field An is n bytes from 32 to 126."
+ghost use mathlib.Core.Path.{_≡_};
+ghost use mathlib.Core.Bool.{_&&_};
+ghost use Prim.Native.Nat.{_+_, _-_, _≤_};
+ghost use lib.Dec.{leb};
+ghost use lib.ListN.{length};
+ghost use Rattle.metafile.specs.Bytes.{part, all};
+ghost use Rattle.metafile.specs.Fields.{isDigit, number, digitsTo, isCount, countValue, isText, takeWhile};
+
+// How many bytes at the start of s lie from low to high.
+pub fn leading(s: &[u8], low: u8, high: u8) -> usize
+    ensures { λ r. ⌜ r ≡ length (takeWhile (λ x. leb low x && leb x high) (now (s .entry))) ⌝ }
+{
+    let mut i: usize = 0;
+    while i < s.len() {
+        if s[i] < low {
+            return i;
+        }
+        if s[i] > high {
+            return i;
+        }
+        i += 1;
+    }
+    i
+}
+
+pub fn is_digits(s: &[u8]) -> bool
+    ensures { λ r. ⌜ r ≡ all isDigit (now (s .entry)) ⌝ }
+{
+    leading(s, b'0', b'9') == s.len()
+}
+
+pub fn is_text(s: &[u8]) -> bool
+    ensures { λ r. ⌜ r ≡ all isText (now (s .entry)) ⌝ }
+{
+    leading(s, 32, 126) == s.len()
+}
+
+// A byte as a digit: what it is above "0", and 0 where it is below.
+fn digit(x: u8) -> u64
+    ensures { λ r. ⌜ r ≡ x - 48 ⌝ }
+{
+    if x < 48 {
+        return 0;
+    }
+    (x - 48) as u64
+}
+
+// The number that digits come to.
+pub fn number(s: &[u8]) -> u64
+    requires { ⌜ length (now s) ≤ 12 ⌝ }
+    ensures { λ r. ⌜ r ≡ number (now (s .entry)) ⌝ }
+{
+    let mut value: u64 = 0;
+    let mut i: usize = 0;
+    while i < s.len() {
+        value = value * 10 + digit(s[i]);
+        i += 1;
+    }
+    value
+}
+
+// The number of the n bytes from the place `at` on.
+pub fn number_at(s: &[u8], at: usize, n: usize) -> u64
+    requires { ⌜ (n ≤ 12) × (at + n ≤ length (now s)) ⌝ }
+    ensures { λ r. ⌜ r ≡ number (part at n (now (s .entry))) ⌝ }
+{
+    number(&s[at..at + n])
+}
+
+// Whether the n bytes from the place `at` on are digits that come to at most so much.
+pub fn digits_at(s: &[u8], at: usize, n: usize, most: u64) -> bool
+    requires { ⌜ (n ≤ 12) × (at + n ≤ length (now s)) ⌝ }
+    ensures { λ r. ⌜ r ≡ digitsTo most (part at n (now (s .entry))) ⌝ }
+{
+    is_digits(&s[at..at + n]) & (number_at(s, at, n) <= most)
+}
+
+// Lengths, counts, the mark length and the two checks: digits for now, apart because recorders may pad them.
+pub fn is_count(s: &[u8]) -> bool
+    ensures { λ r. ⌜ r ≡ isCount (now (s .entry)) ⌝ }
+{
+    is_digits(s)
+}
+
+pub fn count_value(s: &[u8]) -> u64
+    requires { ⌜ length (now s) ≤ 12 ⌝ }
+    ensures { λ r. ⌜ r ≡ countValue (now (s .entry)) ⌝ }
+{
+    number(s)
+}

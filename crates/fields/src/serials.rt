@@ -1,0 +1,56 @@
+// Serial numbers, each one value of 38 bytes: "#", date, I2 hour to 23, I2 minute and I2 second to 59, I3 millisecond,
+// A12 processor, I5 random to 65535, I3 check. "The check is the first 35 bytes added byte by byte, modulo 256."
+ghost use mathlib.Core.Path.{_≡_};
+ghost use Prim.Native.Nat.{_≤_};
+ghost use lib.ListN.{length, take};
+ghost use Rattle.metafile.specs.Fields.{isSerial, sameSerial};
+use crate::dates::is_date;
+use crate::numbers::count_value;
+use crate::numbers::digits_at;
+use crate::numbers::is_count;
+use crate::numbers::is_text;
+
+pub fn is_serial(serial: [u8; 38]) -> bool
+    ensures { λ r. ⌜ r ≡ isSerial serial ⌝ }
+{
+    let s = &serial[..];
+    let check = &s[35..38];
+    (s[0] == b'#')
+        & is_date(&s[1..9])
+        & digits_at(s, 9, 2, 23)
+        & digits_at(s, 11, 2, 59)
+        & digits_at(s, 13, 2, 59)
+        & digits_at(s, 15, 3, 999)
+        & is_text(&s[18..30])
+        & digits_at(s, 30, 5, 65535)
+        & is_count(check)
+        & (count_value(check) == sums::byte_sum(&s[0..35]) as u64)
+}
+
+// Equality of serial numbers: all 38 bytes for now.
+pub fn same_serial(a: [u8; 38], b: [u8; 38]) -> bool
+    ensures { λ r. ⌜ r ≡ sameSerial a b ⌝ }
+{
+    let mut i: usize = 0;
+    while i < 38 {
+        if a[i] != b[i] {
+            return false;
+        }
+        i += 1;
+    }
+    true
+}
+
+// The serial number at the start of a slice.
+pub fn serial_from(s: &[u8]) -> [u8; 38]
+    requires { ⌜ 38 ≤ length (now s) ⌝ }
+    ensures { λ r. ⌜ r ≡ take 38 (now (s .entry)) ⌝ }
+{
+    let mut serial: [u8; 38] = [0; 38];
+    let mut n: usize = 0;
+    while n < 38 {
+        serial[n] = s[n];
+        n += 1;
+    }
+    serial
+}

@@ -1,0 +1,6 @@
+-- Judged   fields by kind: short, judged, words, stamps
+-- Runs     the reader's runs: stretches in two parts, lines
+-- Puts     the writer's runs: values, bytes behind bytes, lines, digits, closing
+pub mod Judged
+pub mod Runs
+pub mod Puts

@@ -1,0 +1,76 @@
+-- `lines::run::lines_fault` meets its contract. The loop's invariant: the run from the start is the run of the lines left
+-- from the place reached. The measure: the lines left. Assumes nothing.
+use Prim.Native.Nat.{ℕ, _+_, _-_, _≤_}
+use mathlib.Core.Path.{_≡_, refl}
+use lib.ListN.{length, drop}
+use Rattle.metafile.specs.Lines.{linesOf, run}
+use Rattle.table.specs.Codes.{linesFrom}
+use Rattle.lines.proofs.Runs.{lines-stop, lines-fits, lines-next, lines-end}
+use native.Mathlib.Omega.{arith}
+use Rattle.lines.proofs.run.lines_fault.Statement.{statement}
+use Rattle.lines.proofs.run.lines_fault.Tie as tie
+
+abbrev Inv-loop : tie.InvT-loop
+Inv-loop s at first n end p₀ i₀ p i =
+    (i ≤ end) × (p ≤ length s) × (run (linesOf (linesFrom first n)) (drop at s) ≡ run (linesOf (linesFrom i (end - i))) (drop p s))
+
+abbrev μ-loop : tie.MeasureT-loop
+μ-loop s at first n end p₀ i₀ p i = end - i
+
+add-end : tie.Need-add-end Inv-loop μ-loop
+add-end c = omega arith
+
+loop-holds : tie.Need-loop-holds Inv-loop μ-loop
+loop-holds c =
+    let all : c .before .args .first + c .before .args .n - c .before .args .first ≡ c .before .args .n = omega arith in
+    (omega arith, omega arith, rw all)
+
+line-fault-requires : tie.Need-line-fault-requires Inv-loop μ-loop
+line-fault-requires c κs = omega arith
+
+returns : tie.Need-returns Inv-loop μ-loop
+returns c =
+    let args = c .before .before .before .before .before .args in
+    lines-stop (args .s .now) _ (c .before .before .before .loop .p) (c .before .before .before .loop .i) (args .first + args .n) (c .before .before .before .loop .inv .2) (omega arith) (omega arith) (c .before .line-fault .result) (c .before .line-fault .ensures) (c .if1 .taken)
+
+line-bytes-requires : tie.Need-line-bytes-requires Inv-loop μ-loop
+line-bytes-requires c κs = omega arith
+
+add-p : tie.Need-add-p Inv-loop μ-loop
+add-p c =
+    let args = c .before .before .before .before .before .before .args in
+    omega (arith, lines-fits (args .s .now) _ (c .before .before .before .before .loop .p) (c .before .before .before .before .loop .i) (args .first + args .n) (c .before .before .before .before .loop .inv .2) (omega arith) (omega arith) (c .before .before .line-fault .result) (c .before .before .line-fault .ensures) (omega arith) (c .before .if1 .left), c .line-bytes .ensures)
+
+add-i : tie.Need-add-i Inv-loop μ-loop
+add-i c = omega arith
+
+loop-less : tie.Need-loop-less Inv-loop μ-loop
+loop-less c = omega arith
+
+loop-again : tie.Need-loop-again Inv-loop μ-loop
+loop-again c =
+    let args = c .before .before .before .before .before .before .args in
+    let fits = lines-fits (args .s .now) _ (c .before .before .before .before .loop .p) (c .before .before .before .before .loop .i) (args .first + args .n) (c .before .before .before .before .loop .inv .2) (omega arith) (omega arith) (c .before .before .line-fault .result) (c .before .before .line-fault .ensures) (omega arith) (c .before .if1 .left) in
+    (omega arith, omega (arith, c .line-bytes .ensures), lines-next (args .s .now) _ (c .before .before .before .before .loop .p) (c .before .before .before .before .loop .i) (args .first + args .n) (c .before .before .before .before .loop .inv .2) (omega arith) (omega arith) (c .before .before .line-fault .result) (c .before .before .line-fault .ensures) (c .line-bytes .result) (c .before .if1 .left) (c .line-bytes .ensures))
+
+returns-2 : tie.Need-returns-2 Inv-loop μ-loop
+returns-2 c =
+    let args = c .before .before .before .args in
+    lines-end (args .s .now) _ (c .before .loop .p) (c .before .loop .i) (args .first + args .n) (c .before .loop .inv .2) (omega arith)
+
+pub lines-fault-spec : {M : Type 1} → statement M
+lines-fault-spec =
+    tie.close
+    (tie.spec
+    Inv-loop
+    μ-loop
+    add-end
+    loop-holds
+    line-fault-requires
+    returns
+    line-bytes-requires
+    add-p
+    add-i
+    loop-less
+    loop-again
+    returns-2)

@@ -1,0 +1,15 @@
+-- `lines::write::value_bytes` meets its contract. Assumes nothing.
+use Rattle.lines.proofs.Runs.{wide-is}
+use native.Mathlib.Omega.{arith}
+use borrow.Author.Needs.{needs}
+use Rattle.lines.proofs.write.value_bytes.Statement.{statement}
+use Rattle.lines.proofs.write.value_bytes.Tie as tie
+
+line-at-requires : tie.Need-line-at-requires
+line-at-requires c κs = search needs
+
+returns : tie.Need-returns
+returns c = wide-is (c .before .args .i) (omega arith) (c .line-at .result) (c .line-at .ensures)
+
+pub value-bytes-spec : {M : Type 1} → statement M
+value-bytes-spec = tie.close (tie.spec line-at-requires returns)

@@ -1,0 +1,193 @@
+// The fault of a line's value, by the kind that the table gives it: "4 if the bytes end inside a field, else its own
+// fault". "A listed word and the 38 bytes after it are two" fields.
+ghost use mathlib.Core.Path.{_≡_};
+ghost use mathlib.Core.List.{[], _∷_};
+ghost use Prim.Native.Nat.{_-_, _^_, _≤_, _<_};
+ghost use lib.ListN.{length, drop};
+ghost use Rattle.metafile.specs.Bytes.{require};
+ghost use Rattle.metafile.specs.Lines.{fieldFault, countFault, textFault, dateFault, offsetFault, serialFault, wordFault, freeFault, kindFault, strategy, timeStandard, eventSynch};
+ghost use Rattle.table.specs.Codes.{lineNo};
+ghost use Rattle.lines.specs.Words.{wordNo};
+use crate::words;
+use crate::words::is_word;
+use table::Kind;
+
+// The largest number of so many digits.
+const NINES: [u64; 13] = [
+    0,
+    9,
+    99,
+    999,
+    9999,
+    99999,
+    999999,
+    9999999,
+    99999999,
+    999999999,
+    9999999999,
+    99999999999,
+    999999999999,
+];
+
+fn nines(n: usize) -> u64
+    requires { ⌜ n ≤ 12 ⌝ }
+    ensures { λ r. ⌜ r ≡ 10 ^ n - 1 ⌝ }
+{
+    NINES[n]
+}
+
+// No fault where the test holds, else this number.
+pub fn verdict(good: bool, number: u8) -> u8
+    ensures { λ r. ⌜ r ≡ require good number ⌝ }
+{
+    if good { 0 } else { number }
+}
+
+// ---- one field
+
+// n digits that come to at most so much
+fn count_fault(s: &[u8], at: usize, n: usize, most: u64) -> u8
+    requires { ⌜ (at ≤ length (now s)) × (n ≤ 12) ⌝ }
+    ensures { λ r. ⌜ r ≡ fieldFault n (countFault most) (drop at (now (s .entry))) ⌝ }
+{
+    if s.len() - at < n {
+        return 4;
+    }
+    let v = &s[at..at + n];
+    verdict(fields::is_count(v) & (fields::count_value(v) <= most), 6)
+}
+
+fn text_fault(s: &[u8], at: usize, n: usize) -> u8
+    requires { ⌜ at ≤ length (now s) ⌝ }
+    ensures { λ r. ⌜ r ≡ fieldFault n textFault (drop at (now (s .entry))) ⌝ }
+{
+    if s.len() - at < n {
+        return 4;
+    }
+    verdict(fields::is_text(&s[at..at + n]), 6)
+}
+
+fn date_fault(s: &[u8], at: usize) -> u8
+    requires { ⌜ at ≤ length (now s) ⌝ }
+    ensures { λ r. ⌜ r ≡ fieldFault 8 dateFault (drop at (now (s .entry))) ⌝ }
+{
+    if s.len() - at < 8 {
+        return 4;
+    }
+    verdict(fields::is_date(&s[at..at + 8]), 6)
+}
+
+fn offset_fault(s: &[u8], at: usize) -> u8
+    requires { ⌜ at ≤ length (now s) ⌝ }
+    ensures { λ r. ⌜ r ≡ fieldFault 16 offsetFault (drop at (now (s .entry))) ⌝ }
+{
+    if s.len() - at < 16 {
+        return 4;
+    }
+    verdict(fields::is_offset(&s[at..at + 16]), 6)
+}
+
+fn serial_fault(s: &[u8], at: usize) -> u8
+    requires { ⌜ at ≤ length (now s) ⌝ }
+    ensures { λ r. ⌜ r ≡ fieldFault 38 serialFault (drop at (now (s .entry))) ⌝ }
+{
+    if s.len() - at < 38 {
+        return 4;
+    }
+    let serial = fields::serial_from(&s[at..at + 38]);
+    verdict(fields::is_serial(serial), 6)
+}
+
+// n bytes of any value
+fn free_fault(s: &[u8], at: usize, n: usize) -> u8
+    requires { ⌜ at ≤ length (now s) ⌝ }
+    ensures { λ r. ⌜ r ≡ fieldFault n freeFault (drop at (now (s .entry))) ⌝ }
+{
+    if s.len() - at < n {
+        return 4;
+    }
+    0
+}
+
+// one of two listed words
+fn word_fault(s: &[u8], at: usize, a: usize, b: usize) -> u8
+    requires { ⌜ (at ≤ length (now s)) × (a < 10) × (b < 10) ⌝ }
+    ensures { λ r. ⌜ r ≡ fieldFault 3 (wordFault (wordNo a ∷ wordNo b ∷ [])) (drop at (now (s .entry))) ⌝ }
+{
+    if s.len() - at < 3 {
+        return 4;
+    }
+    verdict(is_word(s, at, a) | is_word(s, at, b), 5)
+}
+
+// ---- two fields
+
+// LLC or NUL, I3 mark length
+fn strategy_fault(s: &[u8], at: usize) -> u8
+    requires { ⌜ at ≤ length (now s) ⌝ }
+    ensures { λ r. ⌜ r ≡ kindFault strategy (drop at (now (s .entry))) ⌝ }
+{
+    let word = word_fault(s, at, words::LLC, words::NUL);
+    if word != 0 {
+        return word;
+    }
+    count_fault(s, at + 3, 3, 999)
+}
+
+// UTC, NUL or ALT, then 38 bytes: a serial number after ALT
+fn standard_fault(s: &[u8], at: usize) -> u8
+    requires { ⌜ at ≤ length (now s) ⌝ }
+    ensures { λ r. ⌜ r ≡ kindFault (timeStandard .kind) (drop at (now (s .entry))) ⌝ }
+{
+    if s.len() - at < 3 {
+        return 4;
+    }
+    if is_word(s, at, words::ALT) {
+        return serial_fault(s, at + 3);
+    }
+    if is_word(s, at, words::UTC) | is_word(s, at, words::NUL) {
+        return free_fault(s, at + 3, 38);
+    }
+    5
+}
+
+// NUL, SLV or MAS, then 38 bytes: a serial number after SLV and MAS
+fn event_fault(s: &[u8], at: usize) -> u8
+    requires { ⌜ at ≤ length (now s) ⌝ }
+    ensures { λ r. ⌜ r ≡ kindFault (eventSynch .kind) (drop at (now (s .entry))) ⌝ }
+{
+    if s.len() - at < 3 {
+        return 4;
+    }
+    if is_word(s, at, words::SLV) | is_word(s, at, words::MAS) {
+        return serial_fault(s, at + 3);
+    }
+    if is_word(s, at, words::NUL) {
+        return free_fault(s, at + 3, 38);
+    }
+    5
+}
+
+// ---- the value of line i at a place
+
+pub fn value_fault(s: &[u8], at: usize, i: usize) -> u8
+    requires { ⌜ (at ≤ length (now s)) × (i < 24) ⌝ }
+    ensures { λ r. ⌜ r ≡ kindFault (lineNo i .kind) (drop at (now (s .entry))) ⌝ }
+{
+    let line = table::line_at(i);
+    let kind = line.kind;
+    let width = line.width;
+    match kind {
+        Kind::Number => count_fault(s, at, width, nines(width)),
+        Kind::Checksum => count_fault(s, at, width, 255),
+        Kind::Text => text_fault(s, at, width),
+        Kind::Date => date_fault(s, at),
+        Kind::Offset => offset_fault(s, at),
+        Kind::Serial => serial_fault(s, at),
+        Kind::Generic => word_fault(s, at, words::BIN, words::TXT),
+        Kind::Synch => word_fault(s, at, words::GEN, words::SPE),
+        Kind::Standard => standard_fault(s, at),
+        Kind::Event => event_fault(s, at),
+        Kind::Strategy => strategy_fault(s, at),
+    }
+}

@@ -1,0 +1,39 @@
+// The listed words, three bytes each.
+ghost use mathlib.Core.Path.{_≡_};
+ghost use Prim.Native.Nat.{_+_, _≤_, _<_};
+ghost use lib.ListN.{length};
+ghost use Rattle.metafile.specs.Bytes.{part, same};
+ghost use Rattle.lines.specs.Words.{wordNo};
+
+const WORDS: [u8; 30] = *b"LLCNULBINTXTGENSPEUTCALTSLVMAS";
+
+// Their numbers.
+pub const LLC: usize = 0;
+
+pub const NUL: usize = 1;
+
+pub const BIN: usize = 2;
+
+pub const TXT: usize = 3;
+
+pub const GEN: usize = 4;
+
+pub const SPE: usize = 5;
+
+pub const UTC: usize = 6;
+
+pub const ALT: usize = 7;
+
+pub const SLV: usize = 8;
+
+pub const MAS: usize = 9;
+
+// Word w stands at a place.
+pub fn is_word(s: &[u8], at: usize, w: usize) -> bool
+    requires { ⌜ (at + 3 ≤ length (now s)) × (w < 10) ⌝ }
+    ensures { λ r. ⌜ r ≡ same (part at 3 (now (s .entry))) (wordNo w) ⌝ }
+{
+    let words = WORDS;
+    let from = w * 3;
+    search::same_bytes(&s[at..at + 3], &words[from..from + 3])
+}

@@ -1,0 +1,96 @@
+// The search for a mark: "the data end at the first place where the mark occurs". The bytes are a text and a tail
+// behind it, so that data and the mark after them are searched without being copied together; when reading, the tail is
+// empty. Places at which the mark's first byte does not stand are passed over by one loop over the bytes.
+// The contracts cite same, starts and find of the crate metafile (specs/Bytes); the laws of the search are in proofs/Laws.
+ghost use mathlib.Core.Path.{_≡_};
+ghost use mathlib.Core.List.{[], _∷_, _++_};
+ghost use Prim.Native.Nat.{min};
+ghost use lib.ListN.{length};
+ghost use Rattle.metafile.specs.Bytes.{same, starts, find};
+
+// The same bytes.
+pub fn same_bytes(a: &[u8], b: &[u8]) -> bool
+    ensures { λ r. ⌜ r ≡ same (now (a .entry)) (now (b .entry)) ⌝ }
+{
+    if a.len() != b.len() {
+        return false;
+    }
+    let mut left = a.len();
+    while 0 < left {
+        let i = a.len() - left;
+        if a[i] != b[i] {
+            return false;
+        }
+        left -= 1;
+    }
+    true
+}
+
+// The bytes s begin with the mark.
+pub fn begins(mark: &[u8], s: &[u8]) -> bool
+    ensures { λ r. ⌜ r ≡ starts (now (mark .entry)) (now (s .entry)) ⌝ }
+{
+    let n = mark.len();
+    if s.len() < n {
+        return false;
+    }
+    same_bytes(&s[..n], mark)
+}
+
+// The bytes s, followed by a tail, begin with the mark.
+fn begins_across(mark: &[u8], s: &[u8], tail: &[u8]) -> bool
+    ensures { λ r. ⌜ r ≡ starts (now (mark .entry)) (now (s .entry) ++ now (tail .entry)) ⌝ }
+{
+    let n = s.len();
+    if mark.len() <= n {
+        return begins(mark, s);
+    }
+    if same_bytes(s, &mark[..n]) {
+        return begins(&mark[n..], tail);
+    }
+    false
+}
+
+// The first place of a byte; the end where it does not occur.
+fn find_byte(b: u8, s: &[u8]) -> usize
+    ensures { λ r. ⌜ r ≡ find (b ∷ []) (now (s .entry)) ⌝ }
+{
+    let mut i: usize = 0;
+    while i < s.len() {
+        if s[i] == b {
+            return i;
+        }
+        i += 1;
+    }
+    i
+}
+
+// The first place of a mark that is inside the text, the text followed by a tail; the text's end where there is none.
+fn find_inside(mark: &[u8], text: &[u8], tail: &[u8]) -> usize
+    ensures { λ r. ⌜ r ≡ min (find (now (mark .entry)) (now (text .entry) ++ now (tail .entry))) (length (now (text .entry))) ⌝ }
+{
+    if mark.len() == 0 {
+        return 0;
+    }
+    let first = mark[0];
+    let mut p = find_byte(first, text);
+    while p < text.len() {
+        if begins_across(mark, &text[p..], tail) {
+            return p;
+        }
+        p += 1;
+        p += find_byte(first, &text[p..]);
+    }
+    p
+}
+
+// The first place of a mark in a text that is followed by a tail; the end of both where it does not occur.
+pub fn find_mark(mark: &[u8], text: &[u8], tail: &[u8]) -> usize
+    ensures { λ r. ⌜ r ≡ find (now (mark .entry)) (now (text .entry) ++ now (tail .entry)) ⌝ }
+{
+    let p = find_inside(mark, text, tail);
+    if p < text.len() {
+        return p;
+    }
+    p + find_inside(mark, tail, &tail[..0])
+}
