@@ -6,17 +6,16 @@
 --     kind-told told-..       the kind of a line and its bound, from the code's kind
 -- Assumes nothing.
 use Prim.Native.Nat.{ℕ, zero, suc, _+_, _-_, _*_, _^_, _≤_, _<_}
-use mathlib.Core.Bool.{Bool, true, false, cond, not, _&&_, _||_}
-use mathlib.Core.Path.{_≡_, refl, sym, ap, _∙_}
+use mathlib.Core.Bool.{Bool, true, false, _&&_, _||_}
+use mathlib.Core.Path.{_≡_, refl, sym, _∙_}
 use mathlib.Core.List.{List, [], _∷_, _++_}
 use native.Mathlib.Omega.{arith}
-use lib.Dec.{leb, eqb}
+use lib.Dec.{eqb}
 use lib.ListN.{length, take, drop, getD, length-drop}
 use lib.Seq.{drop-drop, take-take}
 use borrow.Author.Tests.{eqb-true, eqb-false}
 use Rattle.metafile.specs.Bytes.{bytes, part, _⊳_, require, same, member}
-use Rattle.metafile.specs.Fields.{isSerial}
-use Rattle.metafile.specs.Lines.{LLC, NUL, Kind, Line, strategy, stamp, fieldFault, countFault, serialFault, wordFault, stampFault, freeFault, kindFault}
+use Rattle.metafile.specs.Lines.{LLC, NUL, strategy, stamp, fieldFault, countFault, serialFault, wordFault, stampFault, freeFault, kindFault}
 use Rattle.table.specs.declared.Kind.{Kind as Code}
 use Rattle.table.specs.declared.Kind.the-variants.{Number, Checksum}
 use Rattle.table.specs.declared.Line.{Line as CodeLine}

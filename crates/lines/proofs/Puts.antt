@@ -7,18 +7,17 @@
 --     closing-..                the closing put piece by piece; closingFor-is: with the integrity data of the definitions
 -- Assumes nothing.
 use Prim.Native.Nat.{ℕ, zero, suc, _+_, _-_, _/_, _%_, _≤_, _<_}
-use mathlib.Core.Bool.{Bool, true, false, _&&_}
+use mathlib.Core.Bool.{true, false, _&&_}
 use mathlib.Core.Path.{_≡_, refl, sym, ap, _∙_}
 use mathlib.Core.List.{List, [], _∷_, _++_, append-assoc, append-nil}
 use native.Mathlib.Omega.{arith}
 use native.Mathlib.Nat.{le-of-eq}
-use native.Mathlib.Numerals.{add-one}
 use lib.Dec.{eqb}
-use lib.ListN.{length, take, drop, getD, set, length-append, length-take, length-drop, take-append-drop, drop-of-length-le}
+use lib.ListN.{length, take, drop, set, length-append, length-take, length-drop, take-append-drop, drop-of-length-le}
 use lib.Seq.{length-take-le, take-length, take-add, drop-at, drop-drop, drop-append-le, take-append-add, take-append-seam, take-set-le, set-split}
 use borrow.Author.Tests.{eq-eqb, ne-eqb}
 use Rattle.metafile.specs.Bytes.{part, sum}
-use Rattle.metafile.specs.Fields.{digitsOf, padded}
+use Rattle.metafile.specs.Fields.{digitsOf}
 use Rattle.metafile.specs.Lines.{Kind, Field, fixed, value, Line, lf, opened, linesOf, width, fieldWidth, kindFault, fault, size, firstOf, othersOf, put, left, write, formed, checksum, table}
 use Rattle.metafile.specs.Closing.{integrityLines, summed, unsummed, Integrity, integrityValues, summedBytes, closingBytes}
 use Rattle.metafile.specs.Answers.{placed}

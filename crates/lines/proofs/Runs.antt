@@ -5,21 +5,21 @@
 --     run-stop run-fits run-go        a stretch in two parts: the first has a fault; it has none
 --     opened-.. line-.. lines-..      the same of a line up to its LF, of a line, of lines of the table
 -- Assumes nothing.
-use Prim.Native.Nat.{ℕ, zero, suc, _+_, _-_, _≤_, _<_}
-use mathlib.Core.Bool.{Bool, true, false}
-use mathlib.Core.Path.{_≡_, refl, sym, ap, _∙_}
+use Prim.Native.Nat.{ℕ, suc, _+_, _-_, _≤_, _<_}
+use mathlib.Core.Bool.{Bool}
+use mathlib.Core.Path.{_≡_, refl, sym, _∙_}
 use mathlib.Core.List.{List, [], _∷_, _++_}
 use native.Mathlib.Omega.{arith}
 use native.Mathlib.Numerals.{add-one}
 use lib.ListN.{length, take, drop, getD, length-drop}
 use lib.Seq.{drop-drop, drop-cons, take-suc, getD-drop}
-use Rattle.metafile.specs.Bytes.{require, starts, _⊳_}
+use Rattle.metafile.specs.Bytes.{require, starts}
 use Rattle.metafile.specs.Lines.{Field, fixed, value, Line, lf, opened, linesOf, width, fieldWidth, fixedFault, kindFault, fault, size, run, checksum, table}
 use Rattle.table.specs.declared.Line.{Line as CodeLine}
 use Rattle.table.specs.Codes.{lineNo, codeNo, linesFrom}
 use Rattle.table.proofs.Lines.{label-fits, label-long, width-is, width-small}
 use Rattle.laws.proofs.First.{⊳-stop, ⊳-go, ⊳-none}
-use Rattle.laws.proofs.Table.{field-long, run-split, run-enough, size-split}
+use Rattle.laws.proofs.Table.{field-long, run-split, run-enough}
 use Rattle.laws.proofs.Loops.{fixed-short, fixed-bad, fixed-good, part-drop}
 use Rattle.lines.specs.Parts.{fieldNo}
 

@@ -3,9 +3,9 @@
 --     label-short label-bad label-more label-good   a comparison with a label
 --     placed-none placed-more placed-all    a label put byte by byte
 -- Assumes nothing.
-use Prim.Native.Nat.{ℕ, zero, suc, _+_, _-_, _≤_, _<_}
-use mathlib.Core.Path.{_≡_, refl, sym, ap, _∙_}
-use mathlib.Core.List.{List, [], _∷_, _++_}
+use Prim.Native.Nat.{ℕ, _+_, _-_, _≤_, _<_}
+use mathlib.Core.Path.{_≡_, sym, _∙_}
+use mathlib.Core.List.{List}
 use native.Mathlib.Omega.{arith}
 use lib.ListN.{length, take, drop, getD, set, length-drop}
 use lib.Seq.{getD-drop, getD-take, take-length}
@@ -14,7 +14,7 @@ use Rattle.table.specs.Codes.{lineNo, labels, codeNo}
 use Rattle.metafile.specs.Bytes.{part}
 use Rattle.metafile.specs.Lines.{fixed, fault}
 use Rattle.metafile.specs.Answers.{placed}
-use Rattle.laws.proofs.Loops.{agree-more, fixed-short, fixed-bad, fixed-good, placed-nothing, placed-length, put-more}
+use Rattle.laws.proofs.Loops.{agree-more, fixed-short, fixed-bad, fixed-good, put-more}
 use Rattle.table.proofs.Lines.{label-part, label-fits, label-long}
 
 -- a line of the code, and its label

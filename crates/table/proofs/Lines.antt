@@ -5,21 +5,21 @@
 --     label-part, label-long, width-is   its label, the label's length, the value's width
 --     width-small number-small checksum-small   bounds of the widths
 -- Assumes nothing.
-use Prim.Native.Nat.{ℕ, zero, suc, _+_, _-_, _*_, _^_, _≤_, _<_}
-use mathlib.Core.Bool.{Bool, true, false, _&&_}
-use mathlib.Core.Path.{_≡_, refl, sym, ap, _∙_}
-use mathlib.Core.List.{List, [], _∷_, _++_, map}
+use Prim.Native.Nat.{ℕ, zero, suc, _+_, _≤_, _<_}
+use mathlib.Core.Bool.{Bool, true, _&&_}
+use mathlib.Core.Path.{_≡_, refl, ap, _∙_}
+use mathlib.Core.List.{List, [], _∷_, map}
 use native.Mathlib.Omega.{arith}
 use lib.Dec.{leb, eqb}
-use lib.ListN.{length, take, drop, getD, List·getD-map, length-take, length-drop}
+use lib.ListN.{length, getD, List·getD-map, length-take, length-drop}
 use borrow.Author.Tests.{leb-true, eqb-true}
 use Rattle.table.specs.declared.Kind.{Kind as Code}
 use Rattle.table.specs.declared.Kind.the-variants.{Number, Checksum, Text, Date, Offset, Serial, Generic, Synch, Standard, Event, Strategy}
 use Rattle.table.specs.declared.Line.{Line as CodeLine}
 use Rattle.table.specs.Codes.{lineNo, kindOf, labels, codes, codeNo}
-use Rattle.metafile.specs.Bytes.{bytes, part}
-use Rattle.metafile.specs.Lines.{Kind, Line, width, i12, i4, table, chunkHeaderLength, subFormatID, genericType, timeSynchType, timeStandard, timeOffset, eventSynch, dependencyLength, dependencyCount, dependencySerial, dependencySubFormat, contentLength, multiHeaderLength, typeCount, subTypeLength, shortID, chunkSerial, recordingDate, recordingAgent, writingDate, writingAgent, checksum, formatID, separatorStrategy}
-use Rattle.laws.proofs.First.{untrue, and-both}
+use Rattle.metafile.specs.Bytes.{part}
+use Rattle.metafile.specs.Lines.{Line, width, i12, i4, table, chunkHeaderLength, subFormatID, genericType, timeSynchType, timeStandard, timeOffset, eventSynch, dependencyLength, dependencyCount, dependencySerial, dependencySubFormat, contentLength, multiHeaderLength, typeCount, subTypeLength, shortID, chunkSerial, recordingDate, recordingAgent, writingDate, writingAgent, checksum, formatID, separatorStrategy}
+use Rattle.laws.proofs.First.{and-both}
 
 -- ---- rules of a list, at each place
 

@@ -1,12 +1,12 @@
 -- The code's table of lines, and what it stands for: the line of the definitions at each number.
 -- Assumes nothing.
-use Prim.Native.Nat.{ℕ, zero, suc, _+_, _-_, _*_, _^_}
-use mathlib.Core.List.{List, [], _∷_, _++_}
-use lib.ListN.{length, take, drop, getD}
+use Prim.Native.Nat.{ℕ, _-_, _^_}
+use mathlib.Core.List.{List, [], _∷_}
+use lib.ListN.{take, drop, getD}
 use Rattle.table.specs.declared.Kind.{Kind as Code}
 use Rattle.table.specs.declared.Kind.the-variants.{Number, Checksum, Text, Date, Offset, Serial, Generic, Synch, Standard, Event, Strategy}
 use Rattle.table.specs.declared.Line.{Line as CodeLine}
-use Rattle.metafile.specs.Bytes.{bytes, part}
+use Rattle.metafile.specs.Bytes.{bytes}
 use Rattle.metafile.specs.Lines.{Kind, count, text, date, offset, serial, strategy, Line, genericType, timeSynchType, timeStandard, eventSynch, checksum, table}
 
 -- the line of the definitions at a number

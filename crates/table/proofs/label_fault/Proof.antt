@@ -1,6 +1,6 @@
 -- `table::label_fault` meets its contract. The loop's invariant: the bytes passed are those of the label. The measure:
 -- what is left of the label. Assumes nothing.
-use Prim.Native.Nat.{ℕ, _+_, _-_, _≤_, _<_}
+use Prim.Native.Nat.{_+_, _-_, _≤_}
 use mathlib.Core.Path.{_≡_, refl}
 use native.Mathlib.Omega.{arith}
 use borrow.Author.Needs.{needs}
@@ -14,7 +14,7 @@ use Rattle.table.proofs.label_fault.Lts as lts
 use Rattle.table.proofs.line_at.Reads as line-at-reads
 
 abbrev Inv-loop : tie.InvT-loop
-Inv-loop s at i from long j₀ j = (at + long ≤ length s) × (j ≤ long) × (take j (drop at s) ≡ take j (lineNo i .label))
+Inv-loop s at i from long j₀ j = (take j (drop at s) ≡ take j (lineNo i .label)) × (at + long ≤ length s) × (j ≤ long)
 
 abbrev μ-loop : tie.MeasureT-loop
 μ-loop s at i from long j₀ j = long - j
@@ -31,7 +31,7 @@ returns c =
     label-short (at .i) (omega arith) (c .before .line-at .result) (c .before .line-at .ensures) (at .s .now) (at .at) (omega arith)
 
 loop-holds : tie.Need-loop-holds Inv-loop μ-loop
-loop-holds c = (omega arith, omega arith, refl)
+loop-holds c = (refl, omega arith, omega arith)
 
 add-if2 : tie.Need-add-if2 Inv-loop μ-loop
 add-if2 c = omega arith
@@ -71,13 +71,13 @@ loop-again c =
     let at = c .before .before .before .before .before .before .before .args in
     let line = c .before .before .before .before .before .line-at in
     let head = c .before .before .before .loop in
-    (omega arith, omega arith, label-more (at .i) (omega arith) (line .result) (line .ensures) (at .s .now) (at .at) (omega arith) (head .j) (omega arith) (head .inv .2) (c .if2 .left))
+    (label-more (at .i) (omega arith) (line .result) (line .ensures) (at .s .now) (at .at) (omega arith) (head .j) (omega arith) (head .inv .0) (c .if2 .left), omega arith, omega arith)
 
 returns-3 : tie.Need-returns-3 Inv-loop μ-loop
 returns-3 c =
     let at = c .before .before .before .before .before .args in
     let line = c .before .before .before .line-at in
-    label-good (at .i) (omega arith) (line .result) (line .ensures) (at .s .now) (at .at) (omega arith) (c .before .loop .j) (omega arith) (c .before .loop .inv .2)
+    label-good (at .i) (omega arith) (line .result) (line .ensures) (at .s .now) (at .at) (omega arith) (c .before .loop .j) (omega arith) (c .before .loop .inv .0)
 
 pub label-fault-spec : {M : Type 1} → statement M
 label-fault-spec =

@@ -1,6 +1,6 @@
 -- `table::put_label` meets its contract. The loop's invariant: the first bytes of the label are put. The measure: what
 -- is left of the label. Assumes nothing.
-use Prim.Native.Nat.{ℕ, _+_, _-_, _≤_, _<_}
+use Prim.Native.Nat.{_-_, _≤_}
 use mathlib.Core.Path.{_≡_, refl, sym}
 use native.Mathlib.Omega.{arith}
 use borrow.Author.Needs.{needs}

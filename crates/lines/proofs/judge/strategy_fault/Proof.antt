@@ -1,8 +1,6 @@
 -- `lines::judge::strategy_fault` meets its contract. Assumes nothing.
-use lib.ListN.{length}
 use Rattle.lines.proofs.Judged.{strategy-stop, strategy-room, strategy-go}
 use Rattle.lines.specs.Words.{wordNo}
-use Prim.Native.Nat.{_+_, _≤_}
 use native.Mathlib.Omega.{arith}
 use borrow.Author.Needs.{needs}
 use Rattle.lines.proofs.judge.strategy_fault.Statement.{statement}

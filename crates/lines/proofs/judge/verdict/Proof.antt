@@ -1,5 +1,4 @@
 -- `lines::judge::verdict` meets its contract. Assumes nothing.
-use mathlib.Core.Path.{refl}
 use borrow.Author.Needs.{needs}
 use Rattle.metafile.specs.Bytes.{require}
 use Rattle.lines.proofs.judge.verdict.Statement.{statement}

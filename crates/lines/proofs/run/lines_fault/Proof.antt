@@ -1,7 +1,7 @@
 -- `lines::run::lines_fault` meets its contract. The loop's invariant: the run from the start is the run of the lines left
 -- from the place reached. The measure: the lines left. Assumes nothing.
-use Prim.Native.Nat.{ℕ, _+_, _-_, _≤_}
-use mathlib.Core.Path.{_≡_, refl}
+use Prim.Native.Nat.{_+_, _-_, _≤_}
+use mathlib.Core.Path.{_≡_}
 use lib.ListN.{length, drop}
 use Rattle.metafile.specs.Lines.{linesOf, run}
 use Rattle.table.specs.Codes.{linesFrom}

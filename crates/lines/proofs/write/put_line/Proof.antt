@@ -1,7 +1,7 @@
 -- `lines::write::put_line` meets its contract. Assumes nothing.
 use Prim.Native.Nat.{ℕ, _+_, _-_}
-use mathlib.Core.Path.{_≡_, sym, _∙_}
-use mathlib.Core.List.{List, [], _∷_}
+use mathlib.Core.Path.{_≡_, _∙_}
+use mathlib.Core.List.{List}
 use lib.ListN.{length, take, drop, length-set}
 use Rattle.metafile.specs.Lines.{width}
 use Rattle.table.specs.Codes.{lineNo}

@@ -1,11 +1,10 @@
 -- `lines::write::put_number` meets its contract. The loop's invariant: the number is put once the digits left are put before
 -- the place reached. The measure: the digits left. Assumes nothing.
-use Prim.Native.Nat.{_+_, _-_, _%_, _/_, _≤_}
+use Prim.Native.Nat.{_≤_}
 use mathlib.Core.Path.{_≡_, refl, sym, _∙_}
 use lib.ListN.{length, length-set}
 use Rattle.metafile.specs.Fields.{digitsOf}
 use Rattle.metafile.specs.Answers.{placed}
-use Rattle.laws.proofs.Loops.{placed-nothing}
 use Rattle.lines.proofs.Puts.{digit-put, digits-none}
 use native.Mathlib.Omega.{arith}
 use Rattle.lines.proofs.write.put_number.Statement.{statement}

@@ -1,0 +1,11 @@
+-- Laws that the proofs of the functions cite.
+--     Stages     stages in a row, as a function goes through them; a run of free bytes
+--     Headers    the header of a chunk: names, numbers, lengths, dependencies
+--     Plain      plain contents
+--     Closings   the closing
+--     Layouts    the layout of a chunk, and what a whole one says of its places
+pub mod Stages
+pub mod Headers
+pub mod Plain
+pub mod Closings
+pub mod Layouts

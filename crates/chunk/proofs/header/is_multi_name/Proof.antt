@@ -1,0 +1,48 @@
+-- `chunk::header::is_multi_name` meets its contract. Assumes nothing.
+use native.Mathlib.Omega.{arith}
+use borrow.Author.Needs.{needs}
+use lib.ListN.{length-take}
+use Rattle.chunk.proofs.Headers.{multi-name}
+use Rattle.chunk.proofs.header.is_multi_name.Statement.{statement}
+use Rattle.chunk.proofs.header.is_multi_name.Tie as tie
+
+slice-aggregate-same-bytes : tie.Need-slice-aggregate-same-bytes
+slice-aggregate-same-bytes c = simp length-take (omega arith)
+
+slice-aggregate-same-bytes-2 : tie.Need-slice-aggregate-same-bytes-2
+slice-aggregate-same-bytes-2 c = search needs
+
+same-bytes-requires : tie.Need-same-bytes-requires
+same-bytes-requires c κs = search needs
+
+sub-same-bytes : tie.Need-sub-same-bytes
+sub-same-bytes c = search needs
+
+part-same-bytes-start : tie.Need-part-same-bytes-start
+part-same-bytes-start c = search needs
+
+part-same-bytes-end : tie.Need-part-same-bytes-end
+part-same-bytes-end c = search needs
+
+slice-aggregate-same-bytes-3 : tie.Need-slice-aggregate-same-bytes-3
+slice-aggregate-same-bytes-3 c = search needs
+
+same-bytes-requires-2 : tie.Need-same-bytes-requires-2
+same-bytes-requires-2 c κs = search needs
+
+returns : tie.Need-returns
+returns c = multi-name (c .before .before .before .before .before .before .before .args .id .now) _ _ (c .before .before .before .before .before .before .before .pre) (c .before .before .before .same-bytes .ensures) (c .same-bytes2 .ensures)
+
+pub is-multi-name-spec : {M : Type 1} → statement M
+is-multi-name-spec =
+    tie.close
+    (tie.spec
+    slice-aggregate-same-bytes
+    slice-aggregate-same-bytes-2
+    same-bytes-requires
+    sub-same-bytes
+    part-same-bytes-start
+    part-same-bytes-end
+    slice-aggregate-same-bytes-3
+    same-bytes-requires-2
+    returns)

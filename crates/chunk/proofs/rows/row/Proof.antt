@@ -1,0 +1,38 @@
+-- `chunk::rows::row` meets its contract. Assumes nothing.
+use mathlib.Core.Path.{_∙_}
+use native.Mathlib.Omega.{arith}
+use borrow.Author.Needs.{needs}
+use mir.Facts.{toZ-ofZ}
+use Rattle.chunk.proofs.Layouts.{Placed, placed, row-is}
+use Rattle.chunk.proofs.rows.row.Statement.{statement}
+use Rattle.chunk.proofs.rows.row.Tie as tie
+
+-- what the layout says of the chunk's places
+known : (c : tie.Start) → Placed (c .args .l) (c .args .mark .now) (c .args .s .now)
+known c = placed (c .args .l) (c .args .mark .now) (c .args .s .now) (c .pre .0)
+
+add-contents : tie.Need-add-contents
+add-contents c = let k = known (c .before .before .before) in omega arith
+
+add-end : tie.Need-add-end
+add-end c = let k = known (c .before .before .before .before) in omega arith
+
+chunk-serial-requires : tie.Need-chunk-serial-requires
+chunk-serial-requires c κs = search needs
+
+offset-requires : tie.Need-offset-requires
+offset-requires c κs = known (c .before .before .before .before .before) .in-head
+
+sum-good-requires : tie.Need-sum-good-requires
+sum-good-requires c κs = search needs
+
+returns : tie.Need-returns
+returns c =
+    let a = c .before .before .before .before .before .before .before .args in
+    row-is (a .mark .now) (a .s .now) (a .p) (a .l) (known (c .before .before .before .before .before .before .before)) _ _ _ (c .before .before .chunk-serial .ensures)
+    (toZ-ofZ (record { sfits = c .before .offset .ok }) ∙ c .before .offset .ensures) (c .sum-good .ensures)
+
+pub row-spec : {M : Type 1} → statement M
+row-spec =
+    tie.close
+    (tie.spec add-contents add-end chunk-serial-requires offset-requires sum-good-requires returns)

@@ -1,0 +1,71 @@
+// One chunk, read from its own place in the file ("Chunk" and "Reading" of the scope paper): its first fault, or where
+// its parts stand, and the row of a whole chunk. Each stage is a function whose contract equates its answer with the
+// stage of the same name in the crate metafile (specs/Chunk); specs/Layout has the answers themselves.
+//     parts      the layout of a chunk
+//     counts     counts at their places
+//     header     the header: lines, lengths, dependencies, specific data
+//     contents   the contents, those of a MultiChunk by the crate multi
+//     closing    mark, integrity data, mark
+//     rows       serial number, offset, sum and row of a whole chunk
+// It rests on lines for the runs over the table of lines, on fields for values, on search and on sums.
+mod closing;
+mod contents;
+mod counts;
+mod header;
+mod parts;
+mod rows;
+
+pub use closing::closing_fault;
+pub use header::is_multi_name;
+pub use parts::Layout;
+pub use rows::chunk_serial;
+pub use rows::row;
+ghost use mathlib.Core.Path.{_≡_};
+ghost use Rattle.chunk.specs.Layout.{faulty, layoutOf};
+
+fn refused(number: u8) -> Layout
+    ensures { λ r. ⌜ r ≡ faulty number ⌝ }
+{
+    Layout {
+        number,
+        header: 0,
+        contents: 0,
+        bytes: 0,
+        end: 0,
+        dependencies: 0,
+        multichunk: false,
+    }
+}
+
+// The layout of the chunk that begins at s.
+pub fn layout(s: &[u8], llc: bool, mark: &[u8]) -> Layout
+    ensures { λ r. ⌜ r ≡ layoutOf llc (now (mark .entry)) (now (s .entry)) ⌝ }
+{
+    let fault = header::header_fault(s);
+    if fault != 0 {
+        return refused(fault);
+    }
+    let header = header::header_bytes(s);
+    let multichunk = header::is_multi(s);
+    let part = contents::contents_part(&s[header..], multichunk, llc, mark);
+    let number = part.number;
+    if number != 0 {
+        return refused(number);
+    }
+    let contents = header + contents::contents_from(multichunk);
+    let at = contents + part.bytes;
+    let broken = closing::closing_fault(s, at, mark);
+    if broken != 0 {
+        return refused(broken);
+    }
+    let end = at + mark.len() + 254 + mark.len();
+    Layout {
+        number: 0,
+        header,
+        contents,
+        bytes: part.bytes,
+        end,
+        dependencies: header::dependencies(s),
+        multichunk,
+    }
+}

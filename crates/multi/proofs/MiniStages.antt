@@ -1,0 +1,167 @@
+-- The stages of a mini-chunk, each at its place in the bytes, and the answers of the functions that judge it.
+--     first-..    "Where the first must stand, fewer than 10 bytes left are 4, other bytes 8."
+--     mini-..     a mini-chunk: label, short ID, length and data
+--     data-..     its length and data
+--     under-.. none-..   what it adds to the data under a short ID
+-- Assumes nothing.
+use Prim.Native.Nat.{ℕ, _+_, _-_, _≤_, _<_}
+use mathlib.Core.Bool.{Bool, true, false}
+use mathlib.Core.Path.{_≡_, refl, sym, ap, _∙_}
+use mathlib.Core.List.{List, [], _∷_}
+use native.Mathlib.Omega.{arith}
+use lib.ListN.{length, take, drop, length-take, length-drop}
+use lib.Seq.{drop-drop, length-take-le}
+use Rattle.metafile.specs.Bytes.{part, _⊳_, require, same, member, starts}
+use Rattle.metafile.specs.Fields.{countValue}
+use Rattle.metafile.specs.Lines.{text, free, i12, fixed, value, width, fieldWidth, size, kindFault, fault, run, table, multiHeaderLength, shortID}
+use Rattle.metafile.specs.Answers.{placed}
+use Rattle.metafile.specs.Multi.{miniLabel, miniID, miniData, miniFault}
+use Rattle.table.specs.Codes.{lineNo}
+use Rattle.laws.proofs.First.{test, ⊳-left, ⊳-right, ⊳-none, require-met, require-unmet}
+use Rattle.laws.proofs.Lists.{same-eq}
+use Rattle.laws.proofs.Loops.{fixed-good, placed-nothing}
+use Rattle.laws.proofs.Table.{field-short, field-long, kind-enough, run-enough}
+use Rattle.laws.proofs.Distances.{lines}
+use Rattle.multi.specs.Part.{firstMini, miniRest, dataUnder}
+use Rattle.multi.proofs.Places.{go, unmet, met, part-at}
+
+-- ---- where the first must stand
+
+module _ (at : ℕ) (r : List ℕ) where
+  pub first-short : length r - at < 10 → 4 ≡ firstMini (drop at r)
+  unfolding firstMini
+  first-short k = sym (field-short 10 _ (drop at r) (simp length-drop k))
+
+  module _ (k : 10 ≤ length r - at) {x : Bool} (q : x ≡ starts miniLabel (drop at r)) where
+    first-is : firstMini (drop at r) ≡ require x 8
+    unfolding firstMini starts miniLabel
+    first-is = field-long 10 _ (drop at r) (simp length-drop k) ∙ rw q
+
+    pub first-here : x ≡ true → 0 ≡ firstMini (drop at r)
+    first-here t = sym (first-is ∙ require-met x 8 t)
+
+    pub first-other : x ≡ false → 8 ≡ firstMini (drop at r)
+    first-other t = sym (first-is ∙ require-unmet x 8 t)
+
+-- ---- a mini-chunk
+
+starts-long : (m s : List ℕ) → starts m s ≡ true → length m ≤ length s
+unfolding starts
+starts-long m s e =
+    let a : length (take (length m) s) ≡ length m = ap length (same-eq (take (length m) s) m e) in
+    omega (arith, length-take (length m) s)
+
+label-passes : (m s : List ℕ) → starts m s ≡ true → fault (fixed m) s ≡ 0
+unfolding starts
+label-passes m s e = sym (fixed-good m s (starts-long m s e) (same-eq (take (length m) s) m e))
+
+module _ (at : ℕ) (r : List ℕ) (s : starts miniLabel (drop at r) ≡ true) where
+  pub label-fits : at ≤ length r → at + 10 ≤ length r
+  unfolding miniLabel
+  label-fits h =
+      let a = simp length-drop at (starts-long miniLabel (drop at r) s) in
+      omega arith
+
+  name-is : run (fixed miniLabel ∷ value (text 10) ∷ []) (drop at r) ≡ fault (value (text 10)) (drop (at + 10) r)
+  unfolding run _⊳_ fieldWidth miniLabel
+  name-is = rw (label-passes miniLabel (drop at r) s, drop-drop 10 at r) (⊳-none _)
+
+  pub mini-stages : (ids : List (List ℕ)) → miniFault ids (drop at r)
+      ≡ kindFault (lineNo 15 .kind) (drop (at + 10) r)
+      ⊳ require (member (miniID (drop at r)) ids) 8
+      ⊳ miniRest (drop (at + 20) r)
+  unfolding miniFault miniRest miniData lineNo table shortID fault
+  mini-stages ids = rw (name-is, drop-drop 20 at r)
+
+  -- the short ID is in form
+  module _ (z : kindFault (lineNo 15 .kind) (drop (at + 10) r) ≡ 0) where
+    pub id-fits : at ≤ length r → at + 20 ≤ length r
+    unfolding lines lineNo table
+    id-fits h =
+        let a = simp length-drop at (kind-enough (text 10) (drop (at + 10) r) z) in
+        omega (arith, label-fits h)
+
+    -- x tells whether it is declared
+    module _ {x : Bool} (ids : List (List ℕ)) (q : x ≡ member (take (at + 20 - (at + 10)) (drop (at + 10) r)) ids) where
+      declared : member (miniID (drop at r)) ids ≡ x
+      unfolding miniID
+      declared =
+          let ten : at + 20 - (at + 10) ≡ 10 = omega arith in
+          rw (ten, ← drop-drop 10 at r) at (sym q)
+
+      pub mini-undeclared : x ≡ false → 8 ≡ miniFault ids (drop at r)
+      mini-undeclared t = go _ _ 8 z (unmet _ 7 _ (declared ∙ t)) ∙ sym (mini-stages ids)
+
+      pub mini-declared : (f : ℕ) → x ≡ true → f ≡ miniRest (drop (at + 20) r) → f ≡ miniFault ids (drop at r)
+      mini-declared f t p = go _ _ f z (met _ 8 _ f (declared ∙ t) p) ∙ sym (mini-stages ids)
+
+-- ---- its length and data
+
+module _ (at : ℕ) (r : List ℕ) where
+  pub data-stages : miniRest (drop at r)
+      ≡ kindFault (lineNo 12 .kind) (drop at r) ⊳ fault (value (free (countValue (part at 12 r)))) (drop (at + 12) r)
+  unfolding miniRest lineNo table multiHeaderLength run fieldWidth width i12 fault
+  data-stages = rw (⊳-none, drop-drop 12 at r)
+
+  pub number-fits : at ≤ length r → kindFault (lineNo 12 .kind) (drop at r) ≡ 0 → at + 12 ≤ length r
+  unfolding lines lineNo table
+  number-fits h e =
+      let a = simp length-drop at (kind-enough i12 (drop at r) e) in
+      omega arith
+
+  pub data-is : {long : ℕ} → long ≡ countValue (part (at + 20) 12 r) → miniData (drop at r) ≡ long
+  unfolding miniData
+  data-is l = rw (l, part-at at 20 12 r)
+
+size-name : size (fixed miniLabel ∷ value (text 10) ∷ []) ≡ 20
+unfolding lines miniLabel
+size-name = refl
+
+size-data : (n : ℕ) → size (value i12 ∷ value (free n) ∷ []) ≡ 12 + n
+unfolding lines
+size-data n = omega arith
+
+pub mini-fits : (ids : List (List ℕ)) (t : List ℕ) → miniFault ids t ≡ 0 → 32 + miniData t ≤ length t
+unfolding miniFault
+mini-fits ids t e =
+    let a = rw size-name at (run-enough _ t (⊳-left _ _ e)) in
+    let b = simp (length-drop, size-data) at (run-enough _ (drop 20 t) (⊳-right _ _ (⊳-right _ _ e))) in
+    omega arith
+
+-- ---- what a mini-chunk adds to the data under a short ID
+
+pub under-most : (id t : List ℕ) → length (dataUnder id t) ≤ miniData t
+unfolding dataUnder
+under-most id t =
+    test (same (miniID t) id)
+    (λ q. rw q (omega (arith, length-take (miniData t) (drop 32 t))))
+    (λ q. rw q (omega arith))
+
+-- x tells whether it is the mini-chunk's
+module _ (id : List ℕ) (at : ℕ) (r : List ℕ) {x : Bool} (e : x ≡ same (take (at + 20 - (at + 10)) (drop (at + 10) r)) id) where
+  told : same (miniID (drop at r)) id ≡ x
+  unfolding miniID
+  told =
+      let ten : at + 20 - (at + 10) ≡ 10 = omega arith in
+      rw (ten, ← drop-drop 10 at r) at (sym e)
+
+  module _ (t : x ≡ false) where
+    under-none : dataUnder id (drop at r) ≡ []
+    unfolding dataUnder
+    under-none = rw (told, t)
+
+    pub none-long : length (dataUnder id (drop at r)) ≡ 0
+    none-long = ap length under-none
+
+    pub none-put : (p : ℕ) (buffer : List ℕ) → buffer ≡ placed p (dataUnder id (drop at r)) buffer
+    none-put p buffer = sym (ap (λ v. placed p v buffer) under-none ∙ placed-nothing p buffer)
+
+  module _ (t : x ≡ true) {long : ℕ} (l : long ≡ countValue (part (at + 20) 12 r)) where
+    pub under-part : part (at + 32) long r ≡ dataUnder id (drop at r)
+    unfolding dataUnder
+    under-part = rw (told, t, data-is at r l, drop-drop 32 at r)
+
+    pub under-long : at + (32 + miniData (drop at r)) ≤ length r → length (dataUnder id (drop at r)) ≡ long
+    under-long h =
+        ap length (sym under-part)
+        ∙ length-take-le long (drop (at + 32) r) (simp length-drop (omega (arith, data-is at r l)))
