@@ -9,10 +9,9 @@ ghost use mathlib.Core.Bool.{true};
 ghost use mathlib.Core.List.{[], _∷_, _++_};
 ghost use Prim.Native.Nat.{_≤_};
 ghost use lib.ListN.{length};
-ghost use Rattle.metafile.specs.Bytes.{all, nonZero, same, starts};
+ghost use Rattle.metafile.specs.Bytes.{all, nonZero, same};
 ghost use Rattle.metafile.specs.Lines.{NUL};
 ghost use Rattle.metafile.specs.Fields.{digitsOf, padded};
-ghost use Rattle.metafile.specs.Multi.{miniLabel};
 ghost use Rattle.metafile.specs.Answers.{beginAnswer, overLimit, firstRefusal, placed};
 ghost use Rattle.metafile.specs.Begin.{begunFile, beginFormed, beginTests, begin};
 ghost use Rattle.begin.specs.Given.{givenOf, outcome};
@@ -47,13 +46,6 @@ fn is_clear(mark: &[u8]) -> bool
         i += 1;
     }
     true
-}
-
-// The mark begins "MiniChunk=".
-fn begins_mini(mark: &[u8]) -> bool
-    ensures { λ r. ⌜ r ≡ starts miniLabel (now (mark .entry)) ⌝ }
-{
-    search::begins(b"MiniChunk=", mark)
 }
 
 // The strategy is NUL.
@@ -141,7 +133,7 @@ fn refusal(
     if is_nul(strategy) & (mark.len() == 0) {
         return 2;
     }
-    if begins_mini(mark) {
+    if lines::begins_mini(mark) {
         return 3;
     }
     if !is_clear(mark) {

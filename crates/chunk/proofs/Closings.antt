@@ -14,7 +14,8 @@ use Rattle.metafile.specs.Closing.{summed, unsummed, closing}
 use Rattle.table.specs.Codes.{linesFrom}
 use Rattle.laws.proofs.Table.{fault-enough, run-split}
 use Rattle.laws.proofs.Distances.{lines, size-closing}
-use Rattle.chunk.proofs.Stages.{run-one, fits}
+use Rattle.multi.proofs.Places.{fits}
+use Rattle.chunk.proofs.Stages.{run-one}
 
 size-integrity : size (linesOf (linesFrom 16 6)) ≡ 254
 unfolding lines linesFrom table

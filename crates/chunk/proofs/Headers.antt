@@ -25,7 +25,8 @@ use Rattle.laws.proofs.Loops.{part-drop}
 use Rattle.laws.proofs.Table.{field-own, run-enough, run-split, run-at}
 use Rattle.laws.proofs.Distances.{lines, size-head}
 use Rattle.chunk_laws.proofs.Chunk.{size-free, size-behind-count}
-use Rattle.chunk.proofs.Stages.{stop, go, run-one, fits, free-short, free-long}
+use Rattle.multi.proofs.Places.{stop, go, fits}
+use Rattle.chunk.proofs.Stages.{run-one, free-short, free-long}
 
 -- ---- "If, and only if, SubFormat_ID is ADS\SYS\MultiChunk"
 

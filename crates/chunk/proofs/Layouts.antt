@@ -27,7 +27,8 @@ use Rattle.multi.specs.declared.Part.{Part}
 use Rattle.chunk.specs.Layout.{faulty, partsOf, layoutOf, WholeLayout, contentsPart}
 use Rattle.multi.specs.Part.{partOf}
 use Rattle.lines.specs.Words.{wordNo}
-use Rattle.chunk.proofs.Stages.{stop, go, part-number, part-bytes}
+use Rattle.multi.proofs.Places.{stop, go}
+use Rattle.chunk.proofs.Stages.{part-number, part-bytes}
 use Rattle.chunk.proofs.Headers.{header-whole}
 
 -- ---- a fault

@@ -1,5 +1,5 @@
 -- Laws that the proofs of the functions cite.
---     Stages     stages in a row, as a function goes through them; a run of free bytes
+--     Stages     stages of one field, a run of free bytes, the answers on contents
 --     Headers    the header of a chunk: names, numbers, lengths, dependencies
 --     Plain      plain contents
 --     Closings   the closing

@@ -25,7 +25,8 @@ use Rattle.chunk_laws.proofs.Contents.{size-opened}
 use Rattle.multi.specs.declared.Part.{Part}
 use Rattle.chunk.specs.Layout.{lengthLineFault, plainPart, contentsPart}
 use Rattle.multi.specs.Part.{multiPart}
-use Rattle.chunk.proofs.Stages.{stop, go, run-one, fits, free-short, free-long, part-fault, part-whole}
+use Rattle.multi.proofs.Places.{stop, go, fits}
+use Rattle.chunk.proofs.Stages.{run-one, free-short, free-long, part-fault, part-whole}
 
 -- ---- the content length line
 

@@ -1,49 +1,32 @@
--- Stages in a row, as a function goes through them: it answers the first fault, or goes on to the next stage.
---     stop go fits   one stage with a fault, or with none; it then ends inside
+-- Stages of one field, and answers that hold a fault or a number of bytes. stop, go and fits, by which a function goes
+-- through stages in a row, are those of the crate multi (proofs/Places).
+--     run-one                one field
 --     free-short free-long   a run of free bytes that ends behind the file's end, or inside
---     part-fault part-whole  the two answers on contents
+--     part-..                the two answers on contents, and what they say
 -- Assumes nothing.
-use Prim.Native.Nat.{ℕ, zero, suc, _+_, _-_, _≤_, _<_}
+use Prim.Native.Nat.{ℕ, zero, suc, _+_, _≤_, _<_}
 use mathlib.Core.Path.{_≡_, refl, sym, ap, _∙_}
 use mathlib.Core.List.{List, [], _∷_}
 use native.Mathlib.Omega.{arith}
-use lib.ListN.{length, drop, length-drop}
-use Rattle.metafile.specs.Bytes.{_⊳_, choose}
-use Rattle.metafile.specs.Lines.{free, Field, value, freeFault, kindFault, fault, size, run}
-use Rattle.laws.proofs.First.{⊳-stop, ⊳-go, ⊳-none, choose-go, choose-stop}
-use Rattle.laws.proofs.Table.{field-short, field-long, run-enough}
+use lib.ListN.{length, drop}
+use Rattle.metafile.specs.Bytes.{choose}
+use Rattle.metafile.specs.Lines.{free, Field, value, fault, run}
+use Rattle.laws.proofs.First.{⊳-none, choose-go, choose-stop}
+use Rattle.multi.proofs.Places.{free-short as field-free-short, free-long as field-free-long}
 use Rattle.multi.specs.declared.Part.{Part}
 use Rattle.multi.specs.Part.{partOf}
-
-pub stop : (a b r : ℕ) → r ≡ a → (r ≡ 0 → ⊥) → r ≡ a ⊳ b
-stop a b r e n = e ∙ sym (⊳-stop a b (λ z. n (e ∙ z)))
-
-pub go : (a b r : ℕ) → a ≡ 0 → r ≡ b → r ≡ a ⊳ b
-go a b r z e = e ∙ sym (⊳-go a b z)
 
 pub run-one : (f : Field) (s : List ℕ) → run (f ∷ []) s ≡ fault f s
 unfolding run
 run-one f s = ⊳-none (fault f s)
 
--- a stretch without a fault ends inside
-pub fits : (fs : List Field) (n p : ℕ) (s : List ℕ) → size fs ≡ n → p ≤ length s → run fs (drop p s) ≡ 0 → p + n ≤ length s
-fits fs n p s z h e =
-    let a = simp length-drop at (run-enough fs (drop p s) e) in
-    omega arith
-
 -- ---- free bytes
 
 pub free-short : (p n : ℕ) (s : List ℕ) → p ≤ length s → length s < p + n → 4 ≡ run (value (free n) ∷ []) (drop p s)
-unfolding fault kindFault
-free-short p n s h l =
-    let k : length (drop p s) < n = simp length-drop (omega arith) in
-    sym (run-one (value (free n)) (drop p s) ∙ field-short n freeFault (drop p s) k)
+free-short p n s h l = field-free-short n p s h (omega arith) ∙ sym (run-one (value (free n)) (drop p s))
 
 pub free-long : (p n : ℕ) (s : List ℕ) → p + n ≤ length s → 0 ≡ run (value (free n) ∷ []) (drop p s)
-unfolding fault kindFault freeFault
-free-long p n s h =
-    let k : n ≤ length (drop p s) = simp length-drop (omega arith) in
-    sym (run-one (value (free n)) (drop p s) ∙ field-long n freeFault (drop p s) k)
+free-long p n s h = field-free-long n p s (omega arith) (omega arith) ∙ sym (run-one (value (free n)) (drop p s))
 
 -- ---- the answer on contents
 

@@ -2,7 +2,7 @@
 // "Chunk", "Closing", "Fields are read in file order: 4 if the bytes end inside a field, else its own fault"). Labels and
 // widths are those of the crate table, the forms of values those of the crate fields; each contract cites the run, the
 // test or the bytes that the crate metafile defines.
-//     words    the listed words
+//     words    the listed words, and the label of a mini-chunk
 //     judge    the fault of a line's value, by its kind
 //     reader   the field reader: a file and a position in it
 //     run      the reader's runs: lines, LF, mark
@@ -23,6 +23,7 @@ pub use run::lines_fault;
 pub use run::mark_fault;
 pub use run::opened_bytes;
 pub use run::opened_fault;
+pub use words::begins_mini;
 pub use words::is_word;
 pub use write::put_bytes;
 pub use write::put_closing;

@@ -1,8 +1,9 @@
-// The listed words, three bytes each.
+// The listed words, three bytes each, and the label of a mini-chunk.
 ghost use mathlib.Core.Path.{_≡_};
 ghost use Prim.Native.Nat.{_+_, _≤_, _<_};
 ghost use lib.ListN.{length};
-ghost use Rattle.metafile.specs.Bytes.{part, same};
+ghost use Rattle.metafile.specs.Bytes.{part, same, starts};
+ghost use Rattle.metafile.specs.Multi.{miniLabel};
 ghost use Rattle.lines.specs.Words.{wordNo};
 
 const WORDS: [u8; 30] = *b"LLCNULBINTXTGENSPEUTCALTSLVMAS";
@@ -36,4 +37,11 @@ pub fn is_word(s: &[u8], at: usize, w: usize) -> bool
     let words = WORDS;
     let from = w * 3;
     search::same_bytes(&s[at..at + 3], &words[from..from + 3])
+}
+
+// The bytes begin "MiniChunk=".
+pub fn begins_mini(s: &[u8]) -> bool
+    ensures { λ r. ⌜ r ≡ starts miniLabel (now (s .entry)) ⌝ }
+{
+    search::begins(b"MiniChunk=", s)
 }

@@ -17,7 +17,7 @@ pub fn is_mini(r: &[u8], at: usize) -> bool
     requires { ⌜ at ≤ length (now r) ⌝ }
     ensures { λ b. ⌜ b ≡ starts miniLabel (drop at (now (r .entry))) ⌝ }
 {
-    search::begins(b"MiniChunk=", &r[at..])
+    lines::begins_mini(&r[at..])
 }
 
 // "Where the first must stand, fewer than 10 bytes left are 4, other bytes 8."

@@ -6,7 +6,7 @@ use borrow.Author.Needs.{needs}
 use lib.ListN.{length, drop}
 use Rattle.metafile.specs.Lines.{linesOf, fixed, run, fault}
 use Rattle.table.specs.Codes.{linesFrom}
-use Rattle.chunk.proofs.Stages.{stop, go}
+use Rattle.multi.proofs.Places.{stop, go}
 use Rattle.chunk.proofs.Closings.{closing-split, mark-fits, integrity-fits}
 use Rattle.chunk.proofs.closing.closing_fault.Statement.{statement}
 use Rattle.chunk.proofs.closing.closing_fault.Tie as tie

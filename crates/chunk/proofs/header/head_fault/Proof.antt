@@ -4,7 +4,7 @@ use native.Mathlib.Omega.{arith}
 use borrow.Author.Needs.{needs}
 use Rattle.metafile.specs.Lines.{linesOf, run}
 use Rattle.table.specs.Codes.{linesFrom}
-use Rattle.chunk.proofs.Stages.{stop, go}
+use Rattle.multi.proofs.Places.{stop, go}
 use Rattle.chunk.proofs.Headers.{head-split, head-begun}
 use Rattle.chunk.proofs.header.head_fault.Statement.{statement}
 use Rattle.chunk.proofs.header.head_fault.Tie as tie

@@ -7,34 +7,22 @@ use Rattle.laws.proofs.Loops.{part-drop}
 use Rattle.multi.proofs.minis.is_mini.Statement.{statement}
 use Rattle.multi.proofs.minis.is_mini.Tie as tie
 
-slice-aggregate-begins : tie.Need-slice-aggregate-begins
-slice-aggregate-begins c = search needs
+sub-begins-mini : tie.Need-sub-begins-mini
+sub-begins-mini c = search needs
 
-sub-begins : tie.Need-sub-begins
-sub-begins c = search needs
+part-begins-mini-start : tie.Need-part-begins-mini-start
+part-begins-mini-start c = search needs
 
-part-begins-start : tie.Need-part-begins-start
-part-begins-start c = search needs
+part-begins-mini-end : tie.Need-part-begins-mini-end
+part-begins-mini-end c = search needs
 
-part-begins-end : tie.Need-part-begins-end
-part-begins-end c = search needs
-
-begins-requires : tie.Need-begins-requires
-begins-requires c κs = search needs
+begins-mini-requires : tie.Need-begins-mini-requires
+begins-mini-requires c κs = search needs
 
 returns : tie.Need-returns
-unfolding miniLabel
 returns c =
-    let a = c .before .before .before .before .args in
-    c .begins .ensures ∙ ap (starts miniLabel) (part-drop (a .r .now) (a .at))
+    let a = c .before .before .before .args in
+    c .begins-mini .ensures ∙ ap (starts miniLabel) (part-drop (a .r .now) (a .at))
 
 pub is-mini-spec : {M : Type 1} → statement M
-is-mini-spec =
-    tie.close
-    (tie.spec
-    slice-aggregate-begins
-    sub-begins
-    part-begins-start
-    part-begins-end
-    begins-requires
-    returns)
+is-mini-spec = tie.close (tie.spec sub-begins-mini part-begins-mini-start part-begins-mini-end begins-mini-requires returns)

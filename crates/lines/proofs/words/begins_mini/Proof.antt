@@ -1,8 +1,8 @@
--- `begin::begins_mini` meets its contract. Assumes nothing.
+-- `lines::words::begins_mini` meets its contract. Assumes nothing.
 use borrow.Author.Needs.{needs}
 use Rattle.metafile.specs.Multi.{miniLabel}
-use Rattle.begin.proofs.begins_mini.Statement.{statement}
-use Rattle.begin.proofs.begins_mini.Tie as tie
+use Rattle.lines.proofs.words.begins_mini.Statement.{statement}
+use Rattle.lines.proofs.words.begins_mini.Tie as tie
 
 slice-aggregate-begins : tie.Need-slice-aggregate-begins
 slice-aggregate-begins c = search needs
