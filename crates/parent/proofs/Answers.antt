@@ -1,0 +1,92 @@
+-- The answers of parent, by its tests ("Parent, contents and gather test 11 and then by rising number").
+--     compared                           n bytes from each of two places on, as slices give them
+--     refused-11 refused-13 refused-14   a number only
+--     dependency-inside                  a dependency of a row that is there lies inside the file
+--     missing answered                   no row has its serial; the row that has it, and whether the sub-formats agree
+-- Assumes nothing.
+use Prim.Native.Nat.{ℕ, suc, _+_, _-_, _*_, _≤_, _<_}
+use mathlib.Core.Bool.{Bool, true, false}
+use mathlib.Core.Path.{_≡_, sym, ap, _∙_}
+use mathlib.Core.List.{List, []}
+use native.Mathlib.Omega.{arith}
+use lib.Dec.{ltb}
+use lib.ListN.{length, take, drop}
+use lib.Seq.{drop-drop}
+use borrow.Author.Tests.{le-leb, lt-leb, lt-ltb, le-ltb}
+use Rattle.metafile.specs.declared.ParentAnswer.the-variants.{Found as Answered, Missing, Refused}
+use Rattle.metafile.specs.Bytes.{part, same}
+use Rattle.metafile.specs.Chunk.{subFormat, dependencySerialOf, dependencySubFormatOf}
+use Rattle.metafile.specs.Reading.{rowsOf}
+use Rattle.metafile.specs.Answers.{refused, parentAnswer, firstRefusal}
+use Rattle.metafile.specs.Append.{rowNo, subFormatOf}
+use Rattle.metafile.specs.Calls.{rowWith, chunkOf, parentRow, agree, parentTests, parent}
+use Rattle.laws.proofs.First.{choose-go, choose-stop}
+use Rattle.laws.proofs.Accepted.{refusal-first, refusal-next}
+use Rattle.walk.specs.declared.answers.Found.{Found}
+use Rattle.walk.specs.Walk.{foundAt}
+use Rattle.contents.proofs.Rows.{over, file-within, unnamed, tests-13, tests-on, tests-end, Named}
+
+slice-is : (s : List ℕ) (a n : ℕ) → take (a + n - a) (drop a s) ≡ part a n s
+slice-is s a n = let e : a + n - a ≡ n = omega arith in rw e
+
+pub compared : (s : List ℕ) (a b n : ℕ) → same (take (a + n - a) (drop a s)) (take (b + n - b) (drop b s)) ≡ same (part a n s) (part b n s)
+compared s a b n = rw (slice-is s a n, slice-is s b n)
+
+-- m bytes from a place of the chunk at p, as bytes of the file
+in-chunk : (file : List ℕ) (p a m : ℕ) → part (p + a) m file ≡ part a m (drop p file)
+in-chunk file p a m = rw (drop-drop a p file)
+
+module _ (file : List ℕ) (k j : ℕ) where
+  refused-with : (n : ℕ) → firstRefusal (parentTests file k j) ≡ suc n → parentAnswer (Refused (suc n)) ≡ parent file k j
+  unfolding parent parentAnswer
+  refused-with n e = sym (choose-stop (firstRefusal (parentTests file k j)) _ _ (λ z. omega arith) ∙ ap refused e)
+
+  pub refused-11 : 1073741824 < length file → parentAnswer (Refused 11) ≡ parent file k j
+  unfolding parentTests
+  refused-11 h = refused-with 10 (refusal-first 11 _ _ (over (length file) [] h))
+
+  module _ (h : length file ≤ 1073741824) where
+    pub refused-13 : length (rowsOf file) ≤ k → parentAnswer (Refused 13) ≡ parent file k j
+    unfolding parentTests
+    refused-13 e = refused-with 12 (tests-13 _ _ k _ (file-within file h) e)
+
+    module _ (own : Found) (w : Named file k own) where
+      pub refused-14 : own .layout .dependencies ≤ j → parentAnswer (Refused 14) ≡ parent file k j
+      unfolding parentTests
+      refused-14 e =
+          let d : rowNo (rowsOf file) k .dependencies ≤ j = omega (arith, w .dependencies-is) in
+          refused-with 13 (tests-on _ _ k _ (file-within file h) (w .in-rows) ∙ refusal-first 14 _ [] (le-leb _ _ d))
+
+      module _ (l : j < own .layout .dependencies) where
+        pub dependency-inside : own .place + 568 + 344 * j + 344 ≤ length file
+        dependency-inside = omega (arith, w .lies .dependencies-inside, w .place-is, w .dependencies-is)
+
+        none : firstRefusal (parentTests file k j) ≡ 0
+        unfolding parentTests
+        none =
+            let d : j < rowNo (rowsOf file) k .dependencies = omega (arith, w .dependencies-is) in
+            tests-on _ _ k _ (file-within file h) (w .in-rows) ∙ refusal-next 14 _ [] (lt-leb _ _ d) ∙ tests-end
+
+        module _ (p : ℕ) (e : p ≡ rowWith (part (own .place + 568 + 344 * j + 25) 38 file) (rowsOf file)) where
+          row-is : p ≡ parentRow file k j
+          unfolding parentRow chunkOf dependencySerialOf
+          row-is =
+              let place : own .place + 568 + 344 * j + 25 ≡ rowNo (rowsOf file) k .place + (568 + 344 * j + 25) = omega (arith, w .place-is) in
+              e ∙ rw (place, in-chunk file (rowNo (rowsOf file) k .place) (568 + 344 * j + 25) 38)
+
+          module _ (f : Found) where
+            pub missing : f ≡ foundAt file p → f .there ≡ false → parentAnswer Missing ≡ parent file k j
+            unfolding parent parentAnswer
+            missing q t =
+                let out : ltb p (length (rowsOf file)) ≡ false = le-ltb _ _ (unnamed file p f q t) in
+                sym (choose-go (firstRefusal (parentTests file k j)) _ _ none ∙ rw (← row-is, out))
+
+            pub answered : Named file p f → (b : Bool) → b ≡ same (part (own .place + 568 + 344 * j + 87) 256 file) (part (f .place + 46) 256 file)
+                → parentAnswer (Answered p b) ≡ parent file k j
+            unfolding parent parentAnswer agree chunkOf subFormatOf subFormat dependencySubFormatOf
+            answered v b q =
+                let place : own .place + 568 + 344 * j + 87 ≡ rowNo (rowsOf file) k .place + (568 + 344 * j + 87) = omega (arith, w .place-is) in
+                let there : ltb p (length (rowsOf file)) ≡ true = lt-ltb _ _ (v .in-rows) in
+                let is : b ≡ same (part (568 + 344 * j + 87) 256 (drop (rowNo (rowsOf file) k .place) file)) (part 46 256 (drop (rowNo (rowsOf file) p .place) file)) =
+                q ∙ rw (place, v .place-is, in-chunk file (rowNo (rowsOf file) k .place) (568 + 344 * j + 87) 256, in-chunk file (rowNo (rowsOf file) p .place) 46 256) in
+                sym (choose-go (firstRefusal (parentTests file k j)) _ _ none ∙ rw (← row-is, there, ← is))

@@ -1,0 +1,137 @@
+// The states of the loop of read: with n rows written, the next row to write, or the number with which the reading stops.
+// Rows beyond the table's room are looked at once, for the number 10, and no sum is taken for them.
+ghost use mathlib.Core.Bool.{true};
+ghost use mathlib.Core.Path.{_≡_};
+ghost use Prim.Native.Nat.{_+_};
+ghost use Rattle.metafile.specs.Append.{noRow};
+ghost use Rattle.read.specs.State.{nothing, Behind, stateBehind, stateAt, lastOf};
+use metafile::ReadAnswer;
+use metafile::Row;
+use walk::Header;
+
+pub struct State {
+    // there is a row to write
+    pub go: bool,
+    // rows written
+    pub n: usize,
+    pub row: Row,
+    // where the last row written ends, else the header
+    pub at: usize,
+    pub number: u8,
+    pub header: Header,
+}
+
+// "11 a lent byte buffer over 2^30"
+const LIMIT: usize = 1073741824;
+
+fn no_row() -> Row
+    ensures { λ r. ⌜ r ≡ noRow ⌝ }
+{
+    Row {
+        serial: [0u8; 38],
+        place: 0,
+        header: 0,
+        contents: 0,
+        bytes: 0,
+        end: 0,
+        dependencies: 0,
+        offset: 0,
+        multichunk: false,
+        good: false,
+    }
+}
+
+// No row at all.
+fn refused(number: u8) -> State
+    ensures { λ r. ⌜ r ≡ nothing number ⌝ }
+{
+    let row = no_row();
+    let header = Header {
+        number,
+        end: 0,
+        mark: 0,
+        llc: false,
+        good: false,
+    };
+    State {
+        go: false,
+        n: 0,
+        row,
+        at: 0,
+        number,
+        header,
+    }
+}
+
+// With n rows written, the last of which ends at the place `at`.
+fn state_behind(file: &[u8], room: usize, header: Header, n: usize, at: usize) -> State
+    requires { ⌜ Behind (now file) header n at ⌝ }
+    ensures { λ r. ⌜ r ≡ stateBehind (now (file .entry)) room n ⌝ }
+{
+    let none = no_row();
+    let step = walk::step(file, header, at, n);
+    if !step.go {
+        return State {
+            go: false,
+            n,
+            row: none,
+            at,
+            number: step.number,
+            header,
+        };
+    }
+    if room <= n {
+        return State {
+            go: false,
+            n,
+            row: none,
+            at,
+            number: 10,
+            header,
+        };
+    }
+    let layout = step.layout;
+    let end = 65 + header.mark;
+    let row = chunk::row(&file[at..], at, &file[65..end], layout);
+    State {
+        go: true,
+        n,
+        row,
+        at,
+        number: 0,
+        header,
+    }
+}
+
+pub fn first(file: &[u8], room: usize) -> State
+    ensures { λ r. ⌜ r ≡ stateAt (now (file .entry)) room 0 ⌝ }
+{
+    if LIMIT < file.len() {
+        return refused(11);
+    }
+    let header = walk::header(file);
+    if header.number != 0 {
+        return refused(header.number);
+    }
+    state_behind(file, room, header, 0, header.end)
+}
+
+// The state after the row of s is written.
+pub fn next(file: &[u8], room: usize, s: State) -> State
+    requires { ⌜ (s ≡ stateAt (now file) room (s .n)) × (s .go ≡ true) ⌝ }
+    ensures { λ r. ⌜ r ≡ stateAt (now (file .entry)) room (s .n + 1) ⌝ }
+{
+    let header = s.header;
+    state_behind(file, room, header, s.n + 1, s.row.end)
+}
+
+pub fn last(s: State) -> ReadAnswer
+    ensures { λ r. ⌜ r ≡ lastOf s ⌝ }
+{
+    ReadAnswer {
+        count: s.n,
+        stop: s.at,
+        good: s.header.good,
+        number: s.number,
+    }
+}

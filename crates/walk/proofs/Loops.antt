@@ -1,0 +1,238 @@
+-- What the functions over the steps need of the reading: a chunk read at a place, one turn of a loop, each answer.
+--     given-..          the chunk and its serial number, from the parts of the file that are handed on
+--     turn              from one row to the next
+--     step-..           the answers of a step; going halted: what a step's answer says
+--     found-.. walk-..  the answers of the walks
+--     seen-.. with-..   the serial number of the chunk of a row, compared
+-- Assumes nothing.
+use Prim.Native.Nat.{ℕ, suc, _+_, _-_, _≤_, _<_}
+use mathlib.Core.Bool.{Bool, true, false, not}
+use mathlib.Core.Path.{_≡_, refl, sym, ap, _∙_}
+use mathlib.Core.List.{List, []}
+use native.Mathlib.Omega.{arith}
+use native.Mathlib.Numerals.{add-one}
+use lib.Dec.{ltb}
+use lib.ListN.{length, take, drop, length-drop}
+use lib.Seq.{drop-length}
+use borrow.Author.Tests.{lt-ltb, le-ltb, ltb-true, ltb-false, not-true, not-false}
+use Rattle.metafile.specs.Bytes.{_⊳_, require, isEmpty}
+use Rattle.metafile.specs.Fields.{sameSerial, known}
+use Rattle.metafile.specs.Header.{isLLC, markLength, markOf, headerFault, headerGood}
+use Rattle.metafile.specs.Chunk.{chunkFault, chunkEnd, serialOf}
+use Rattle.metafile.specs.Reading.{halt, nextFault, withHeader, reading, rowsOf, serialsOf}
+use Rattle.metafile.specs.Append.{rowNo}
+use Rattle.metafile.specs.Calls.{rowWith}
+use Rattle.laws.proofs.First.{test, cases, untrue, ⊳-stop, ⊳-go, require-met, require-unmet, choose-go, choose-stop}
+use Rattle.laws.proofs.Loops.{part-drop}
+use Rattle.chunk_laws.proofs.Rows.{some-bytes}
+use Rattle.chunk_laws.proofs.File.{file-few, good-begun, rows-unbegun, read-unbegun}
+use Rattle.chunk.specs.declared.parts.Layout.{Layout}
+use Rattle.walk.specs.declared.answers.Step.{Step}
+use Rattle.chunk.specs.Layout.{layoutOf, partsOf, faulty, WholeLayout}
+use Rattle.walk.specs.Walk.{placeAfter, chunkAt, noLayout, stopWith, stepOf, walkOf, foundAt}
+use Rattle.walk.proofs.Stages.{mark-part}
+use Rattle.walk.proofs.Steps.{serialsPast, restAfter, faultAfter, Stopped, after-cases, row-place, row-serial, row-unfaulted, place-suc, place-fits, stop-is}
+use Rattle.walk.proofs.Serials.{known-past, known-more, known-there, with-here}
+
+-- ---- the chunk at a place
+
+layout-number : (llc : Bool) (m s : List ℕ) → layoutOf llc m s .number ≡ chunkFault llc m s
+unfolding layoutOf partsOf faulty
+layout-number llc m s =
+    cases (chunkFault llc m s)
+    (λ z. rw z (ap (λ (l : Layout). l .number) (choose-go 0 (partsOf m s) faulty refl)))
+    (λ k z. rw z (ap (λ (l : Layout). l .number) (choose-stop (suc k) (partsOf m s) faulty (λ q. omega arith))))
+
+layout-end : (llc : Bool) (m s : List ℕ) → chunkFault llc m s ≡ 0 → layoutOf llc m s .end ≡ chunkEnd m s
+unfolding layoutOf partsOf
+layout-end llc m s z = ap (λ (l : Layout). l .end) (choose-go (chunkFault llc m s) (partsOf m s) faulty z)
+
+-- the mark and the rest of the file, as they are handed on
+module _ (file : List ℕ) (z : headerFault file ≡ 0) (n : ℕ) (count : n ≡ markLength file) (at : ℕ) where
+  pub given-chunk : (llc : Bool) → llc ≡ isLLC file
+      → layoutOf llc (take (65 + n - 65) (drop 65 file)) (take (length file - at) (drop at file)) ≡ chunkAt file at
+  unfolding chunkAt
+  given-chunk llc is = rw (mark-part file z n count, part-drop file at, is)
+
+  pub given-whole : (l : Layout) → l ≡ chunkAt file at → l .number ≡ 0
+      → WholeLayout l (take (65 + n - 65) (drop 65 file)) (take (length file - at) (drop at file))
+  given-whole l is w = record { llc = isLLC file; is = is ∙ sym (given-chunk (isLLC file) refl); whole = w }
+
+  pub given-serial : serialOf (take (65 + n - 65) (drop 65 file)) (take (length file - at) (drop at file)) ≡ serialOf (markOf file) (drop at file)
+  given-serial = rw (mark-part file z n count, part-drop file at)
+
+-- ---- one turn
+
+-- the chunk of row i: it is whole, and the next row begins where it ends
+pub record Turn (file : List ℕ) (i at : ℕ) (l : Layout) : Type 0 where
+  pub row : i < length (rowsOf file)
+  pub layout-is : l ≡ chunkAt file at
+  pub whole : l .number ≡ 0
+  pub inside : at + l .end ≤ length file
+  pub few : i + 1 ≤ length file
+  pub place : at + l .end ≡ placeAfter file (i + 1)
+
+module _ (file : List ℕ) (e : headerFault file ≡ 0) where
+  pub turn : (i at : ℕ) (l : Layout) → i < length (rowsOf file) → at ≡ placeAfter file i → l ≡ chunkAt file at → Turn file i at l
+  unfolding chunkAt
+  turn i at l h p is =
+      let llc = isLLC file in
+      let m = markOf file in
+      let s = drop (placeAfter file i) file in
+      let here : l ≡ layoutOf llc m s = rw (sym p) is in
+      let z = row-unfaulted file e i h in
+      let next : placeAfter file i + l .end ≡ placeAfter file (suc i) =
+      ap (λ (n : ℕ). placeAfter file i + n) (ap (λ (x : Layout). x .end) here ∙ layout-end llc m s z) ∙ sym (place-suc file e i h) in
+      record {
+        row = h;
+        layout-is = is;
+        whole = ap (λ (x : Layout). x .number) here ∙ layout-number llc m s ∙ z;
+        inside = rw (p, next) (place-fits file e (suc i) h);
+        few = omega (arith, file-few file);
+        place = rw (p, add-one) next;
+      }
+
+  pub place-inside : (i at : ℕ) → i ≤ length (rowsOf file) → at ≡ placeAfter file i → at ≤ length file
+  place-inside i at h p = rw p (place-fits file e i h)
+
+  -- ---- a step
+
+  stopped-step : (i k : ℕ) → Stopped file i k → stopWith k ≡ stepOf file i
+  unfolding stepOf
+  stopped-step i k w = rw (le-ltb i (length (rowsOf file)) (omega (arith, w .count)), w .number-is)
+
+  -- the first fault at the chunk behind i rows; the order of the serials does not matter
+  fault-is : (i : ℕ) → faultAfter file i
+      ≡ chunkFault (isLLC file) (markOf file) (drop (placeAfter file i) file)
+      ⊳ require (not (known (serialOf (markOf file) (drop (placeAfter file i) file)) (serialsOf (take i (rowsOf file))))) 9
+  unfolding faultAfter nextFault restAfter serialsPast
+  fault-is i = rw (known-past (serialOf (markOf file) (drop (placeAfter file i) file)) (take i (rowsOf file)))
+
+  module _ (i at : ℕ) (h : i ≤ length (rowsOf file)) (p : at ≡ placeAfter file i) where
+    ended : restAfter file i ≡ [] → at ≡ length file
+    unfolding restAfter
+    ended q =
+        let k = simp length-drop at (ap length q) in
+        omega (arith, place-fits file e i h)
+
+    pub step-end : at ≡ length file → stopWith 0 ≡ stepOf file i
+    unfolding restAfter isEmpty
+    step-end q =
+        let nothing : drop (placeAfter file i) file ≡ [] = rw (sym p, q) (drop-length file) in
+        after-cases file e i h
+        (λ r w. stopped-step i 0 w)
+        (λ k r z w. untrue (sym (rw nothing at r)))
+        (λ g. untrue (sym (rw nothing at (g .some-bytes))))
+
+    -- bytes stand at the place
+    module _ (more : at ≡ length file → ⊥) where
+      stop-with : (k : ℕ) → faultAfter file i ≡ suc k → stopWith (suc k) ≡ stepOf file i
+      stop-with k f =
+          after-cases file e i h
+          (λ r w. absurd (more (ended r)))
+          (λ j r z w. stopped-step i (suc k) (rw (sym z ∙ f) at w))
+          (λ g. absurd (omega (arith, f, g .no-fault)))
+
+      go-with : faultAfter file i ≡ 0 → i < length (rowsOf file)
+      go-with f =
+          after-cases file e i h
+          (λ r w. absurd (more (ended r)))
+          (λ j r z w. absurd (omega (arith, f)))
+          (λ g. g .inside)
+
+      module _ (l : Layout) (is : l ≡ chunkAt file at) where
+        number-is : l .number ≡ chunkFault (isLLC file) (markOf file) (drop (placeAfter file i) file)
+        unfolding chunkAt
+        number-is =
+            ap (λ (x : Layout). x .number) is
+            ∙ ap (λ (q : ℕ). layoutOf (isLLC file) (markOf file) (drop q file) .number) p
+            ∙ layout-number (isLLC file) (markOf file) (drop (placeAfter file i) file)
+
+        pub step-fault : (l .number ≡ 0 → ⊥) → stopWith (l .number) ≡ stepOf file i
+        step-fault y =
+            cases (l .number) (λ z. absurd (y z))
+            (λ k z. ap stopWith z ∙ stop-with k (fault-is i ∙ rw (sym number-is, z) (⊳-stop (suc k) _ (λ q. omega arith))))
+
+        module _ (z : l .number ≡ 0) (b : Bool) (x : List ℕ) (serial-is : x ≡ serialOf (markOf file) (drop at file)) (seen-is : b ≡ known x (serialsOf (take i (rowsOf file)))) where
+          seen-here : b ≡ known (serialOf (markOf file) (drop (placeAfter file i) file)) (serialsOf (take i (rowsOf file)))
+          seen-here = rw (sym p, sym serial-is) seen-is
+
+          pub step-seen : b ≡ true → stopWith 9 ≡ stepOf file i
+          step-seen y =
+              stop-with 8 (fault-is i ∙ rw (sym number-is, z, sym seen-here, y) (⊳-go 0 _ refl ∙ require-unmet false 9 refl))
+
+          pub step-new : b ≡ false → record { go = true; number = 0; layout = l } ≡ stepOf file i
+          unfolding stepOf
+          step-new y =
+              let f : faultAfter file i ≡ 0 = fault-is i ∙ rw (sym number-is, z, sym seen-here, y) (⊳-go 0 _ refl ∙ require-met true 9 refl) in
+              rw (lt-ltb i (length (rowsOf file)) (go-with f), is, p)
+
+  -- what a step's answer says
+  pub record Halted (i number : ℕ) (l : Layout) : Type 0 where
+    pub past : length (rowsOf file) ≤ i
+    pub number-is : number ≡ reading file .number
+    pub layout-is : l ≡ noLayout
+
+  step-cases : {A : Type 0} (i : ℕ) (s : Step) → s ≡ stepOf file i
+      → (i < length (rowsOf file) → s ≡ record { go = true; number = 0; layout = chunkAt file (placeAfter file i) } → A)
+      → (length (rowsOf file) ≤ i → s ≡ stopWith (reading file .number) → A)
+      → A
+  unfolding stepOf
+  step-cases i s is goes halts =
+      test (ltb i (length (rowsOf file)))
+      (λ q. goes (ltb-true i _ q) (rw q at is))
+      (λ q. halts (ltb-false i _ q) (rw q at is))
+
+  pub going : (i at : ℕ) (s : Step) → s ≡ stepOf file i → at ≡ placeAfter file i → not (s .go) ≡ false → Turn file i at (s .layout)
+  unfolding stopWith
+  going i at s is p y =
+      step-cases i s is
+      (λ h q. turn i at (s .layout) h p (rw p (ap (λ (x : Step). x .layout) q)))
+      (λ h q. untrue (sym (ap (λ (x : Step). x .go) q) ∙ not-false (s .go) y))
+
+  pub halted : (i : ℕ) (s : Step) → s ≡ stepOf file i → not (s .go) ≡ true → Halted i (s .number) (s .layout)
+  unfolding stopWith
+  halted i s is y =
+      step-cases i s is
+      (λ h q. untrue (sym (not-true (s .go) y) ∙ ap (λ (x : Step). x .go) q))
+      (λ h q. record { past = h; number-is = ap (λ (x : Step). x .number) q; layout-is = ap (λ (x : Step). x .layout) q })
+
+  -- ---- the answers of the walks
+
+  pub walk-halted : (i at number : ℕ) (l : Layout) (good : Bool) → Halted i number l → i ≤ length (rowsOf file) → at ≡ placeAfter file i → good ≡ headerGood file
+      → record { count = i; stop = at; number = number; good = good } ≡ walkOf file
+  unfolding walkOf
+  walk-halted i at number l good w h p g =
+      let count : length (rowsOf file) ≡ i = omega (arith, w .past) in
+      rw (stop-is file e, count, good-begun file e, p, g, w .number-is)
+
+  pub found-none : (i k number : ℕ) (l : Layout) → Halted i number l → i ≤ k → record { there = false; place = 0; layout = l } ≡ foundAt file k
+  unfolding foundAt
+  found-none i k number l w h = rw (le-ltb k (length (rowsOf file)) (omega (arith, w .past)), w .layout-is)
+
+  pub found-here : (i k at : ℕ) (l : Layout) → Turn file i at l → at ≡ placeAfter file i → i ≡ k → record { there = true; place = at; layout = l } ≡ foundAt file k
+  unfolding foundAt
+  found-here i k at l w p q =
+      rw (sym q, lt-ltb i (length (rowsOf file)) (w .row), row-place file e i (w .row), sym p, w .layout-is)
+
+pub walk-unbegun : (file : List ℕ) (n : ℕ) → n ≡ headerFault file → (n ≡ 0 → ⊥) → record { count = 0; stop = 0; number = n; good = false } ≡ walkOf file
+unfolding walkOf reading withHeader halt
+walk-unbegun file n is y =
+    let e : headerFault file ≡ 0 → ⊥ = λ q. y (is ∙ q) in
+    rw (rows-unbegun file e, read-unbegun (length file) file e, is)
+
+-- ---- the serial number of the chunk of row j
+
+module _ (x file : List ℕ) (e : headerFault file ≡ 0) (j at : ℕ) (h : j < length (rowsOf file)) (p : at ≡ placeAfter file j)
+    (b : Bool) (t : List ℕ) (serial-is : t ≡ serialOf (markOf file) (drop at file)) (same-is : b ≡ sameSerial x t) where
+  same-row : b ≡ sameSerial x (rowNo (rowsOf file) j .serial)
+  same-row = rw (row-serial file e j h, sym p, sym serial-is) same-is
+
+  pub seen-there : (i : ℕ) → j < i → i ≤ length (rowsOf file) → b ≡ true → true ≡ known x (serialsOf (take i (rowsOf file)))
+  seen-there i l m y = sym (known-there x (rowsOf file) i j l m (sym same-row ∙ y))
+
+  pub seen-passed : known x (serialsOf (take j (rowsOf file))) ≡ false → b ≡ false → known x (serialsOf (take (j + 1) (rowsOf file))) ≡ false
+  seen-passed k y = rw add-one (known-more x (rowsOf file) j h ∙ rw (k, sym same-row, y))
+
+  pub with-there : known x (serialsOf (take j (rowsOf file))) ≡ false → b ≡ true → j ≡ rowWith x (rowsOf file)
+  with-there k y = with-here x (rowsOf file) j h k (sym same-row ∙ y)

@@ -1,0 +1,83 @@
+-- Serial numbers in the rows so far ("9 whole chunk, serial already in a row"; "the row with that serial").
+--     known-past                          the rows so far, in whatever order
+--     known-none known-more known-there   row by row
+--     with-none with-here                 the row that has it
+-- Assumes nothing.
+use Prim.Native.Nat.{ℕ, zero, suc, _+_, _≤_, _<_}
+use mathlib.Core.Bool.{Bool, true, false, _||_}
+use mathlib.Core.Path.{_≡_, refl, sym, ap, _∙_}
+use mathlib.Core.List.{List, [], _∷_}
+use native.Mathlib.Omega.{arith}
+use lib.ListN.{length, take, drop}
+use lib.Seq.{drop-length, drop-cons}
+use Rattle.metafile.specs.declared.Row.{Row}
+use Rattle.metafile.specs.Fields.{sameSerial, known}
+use Rattle.metafile.specs.Reading.{serialsOf}
+use Rattle.metafile.specs.Append.{noRow, rowNo}
+use Rattle.metafile.specs.Calls.{rowWith}
+use Rattle.laws.proofs.First.{or-false, or-left, or-right}
+use Rattle.chunk_laws.proofs.Rows.{past}
+
+or-none : (a : Bool) → (a || false) ≡ a
+or-none true = refl
+or-none false = refl
+
+or-assoc : (a b c : Bool) → (a || (b || c)) ≡ ((a || b) || c)
+or-assoc true b c = refl
+or-assoc false b c = refl
+
+or-swap : (a b c : Bool) → (b || (a || c)) ≡ ((a || b) || c)
+or-swap true true c = refl
+or-swap true false c = refl
+or-swap false b c = refl
+
+module _ (x : List ℕ) where
+  known-both : (rs : List Row) (seen : List (List ℕ)) → known x (past rs seen) ≡ (known x (serialsOf rs) || known x seen)
+  unfolding known past serialsOf
+  known-both [] seen = refl
+  known-both (r ∷ rs) seen =
+      known-both rs (r .serial ∷ seen) ∙ or-swap (sameSerial x (r .serial)) (known x (serialsOf rs)) (known x seen)
+
+  pub known-past : (rs : List Row) → known x (past rs []) ≡ known x (serialsOf rs)
+  unfolding known
+  known-past rs = known-both rs [] ∙ or-none (known x (serialsOf rs))
+
+  pub known-none : (rows : List Row) → known x (serialsOf (take 0 rows)) ≡ false
+  unfolding known serialsOf
+  known-none rows = refl
+
+  pub known-more : (rows : List Row) (j : ℕ) → j < length rows
+      → known x (serialsOf (take (suc j) rows)) ≡ (known x (serialsOf (take j rows)) || sameSerial x (rowNo rows j .serial))
+  unfolding known serialsOf rowNo
+  known-more [] j h = absurd (omega arith)
+  known-more (r ∷ rs) zero h = or-none (sameSerial x (r .serial))
+  known-more (r ∷ rs) (suc j) h =
+      ap (λ (b : Bool). sameSerial x (r .serial) || b) (known-more rs j (omega arith))
+      ∙ or-assoc (sameSerial x (r .serial)) (known x (serialsOf (take j rs))) (sameSerial x (rowNo rs j .serial))
+
+  pub known-there : (rows : List Row) (i j : ℕ) → j < i → i ≤ length rows → sameSerial x (rowNo rows j .serial) ≡ true → known x (serialsOf (take i rows)) ≡ true
+  unfolding known serialsOf rowNo
+  known-there rows zero j h l y = absurd (omega arith)
+  known-there [] (suc i) j h l y = absurd (omega arith)
+  known-there (r ∷ rs) (suc i) zero h l y = or-left _ _ y
+  known-there (r ∷ rs) (suc i) (suc j) h l y = or-right (sameSerial x (r .serial)) _ (known-there rs i j (omega arith) (omega arith) y)
+
+  -- the row that has it is behind those that don't
+  with-behind : (rows : List Row) (i : ℕ) → i ≤ length rows → known x (serialsOf (take i rows)) ≡ false → rowWith x rows ≡ i + rowWith x (drop i rows)
+  unfolding known serialsOf rowWith
+  with-behind rows zero h y = omega arith
+  with-behind [] (suc i) h y = absurd (omega arith)
+  with-behind (r ∷ rs) (suc i) h y =
+      let k = or-false (sameSerial x (r .serial)) (known x (serialsOf (take i rs))) y in
+      rw (k .0) (omega (arith, with-behind rs i (omega arith) (k .1)))
+
+  pub with-none : (rows : List Row) (i : ℕ) → i ≤ length rows → length rows ≤ i → known x (serialsOf (take i rows)) ≡ false → i ≡ rowWith x rows
+  unfolding rowWith
+  with-none rows i h past y =
+      let all : i ≡ length rows = omega arith in
+      sym (with-behind rows i h y ∙ rw (all, drop-length rows) (omega arith))
+
+  pub with-here : (rows : List Row) (i : ℕ) → i < length rows → known x (serialsOf (take i rows)) ≡ false → sameSerial x (rowNo rows i .serial) ≡ true → i ≡ rowWith x rows
+  unfolding rowWith rowNo
+  with-here rows i h y q =
+      sym (with-behind rows i (omega arith) y ∙ rw (drop-cons rows i noRow h, q) (omega arith))

@@ -1,0 +1,3 @@
+-- What the contracts cite.
+--     Walk   the answers of the functions
+pub mod Walk

@@ -1,0 +1,65 @@
+-- What the functions of this crate answer, by the definitions of the crate metafile: the file header, one step of the
+-- reading ("Reading"), the reading's count, stop, number and header sum, and a row by its number. Assumes nothing.
+use Prim.Native.Nat.{ℕ, zero, suc}
+use mathlib.Core.Bool.{true, false, cond}
+use mathlib.Core.List.{List}
+use lib.Dec.{ltb}
+use lib.ListN.{length, drop}
+use Rattle.metafile.specs.declared.Row.{Row}
+use Rattle.metafile.specs.Bytes.{choose}
+use Rattle.metafile.specs.Header.{isLLC, markLength, markOf, headerFault, headerEnd, headerGood}
+use Rattle.metafile.specs.Reading.{reading, rowsOf}
+use Rattle.metafile.specs.Append.{rowNo}
+use Rattle.chunk.specs.declared.parts.Layout.{Layout}
+use Rattle.chunk.specs.Layout.{layoutOf}
+use Rattle.walk.specs.declared.answers.Header.{Header}
+use Rattle.walk.specs.declared.answers.Step.{Step}
+use Rattle.walk.specs.declared.answers.Walk.{Walk}
+use Rattle.walk.specs.declared.answers.Found.{Found}
+
+-- the file header: its first fault, or where it ends, the mark's length, the strategy, sum good or not
+unfoldable pub headerOf : List ℕ → Header
+headerOf file =
+    choose (headerFault file)
+    (record { number = 0; end = headerEnd file; mark = markLength file; llc = isLLC file; good = headerGood file })
+    (λ n. record { number = n; end = 0; mark = 0; llc = false; good = false })
+
+-- where the reading goes on behind i rows, the first of which would stand at p
+unfoldable pub placeBehind : ℕ → List Row → ℕ → ℕ
+placeBehind p rows zero = p
+placeBehind p rows (suc i) = rowNo rows i .end
+
+-- where the reading goes on behind the first i rows of the file
+unfoldable pub placeAfter : List ℕ → ℕ → ℕ
+placeAfter file i = placeBehind (headerEnd file) (rowsOf file) i
+
+-- the chunk of a row, and none
+unfoldable pub chunkAt : List ℕ → ℕ → Layout
+chunkAt file p = layoutOf (isLLC file) (markOf file) (drop p file)
+
+unfoldable pub noLayout : Layout
+noLayout =
+    record { number = 0; header = 0; contents = 0; bytes = 0; end = 0; dependencies = 0; multichunk = false }
+
+-- the reading stops with this number
+unfoldable pub stopWith : ℕ → Step
+stopWith n = record { go = false; number = n; layout = noLayout }
+
+-- what stands behind i rows: the next row's chunk, or the number with which the reading stops
+unfoldable pub stepOf : List ℕ → ℕ → Step
+stepOf file i =
+    cond (ltb i (length (rowsOf file)))
+    (record { go = true; number = 0; layout = chunkAt file (placeAfter file i) })
+    (stopWith (reading file .number))
+
+-- the reading with rows enough, without its rows
+unfoldable pub walkOf : List ℕ → Walk
+walkOf file =
+    record { count = length (rowsOf file); stop = reading file .stop; number = reading file .number; good = reading file .good }
+
+-- row k, from 0: its place and its chunk, where there is such a row
+unfoldable pub foundAt : List ℕ → ℕ → Found
+foundAt file k =
+    cond (ltb k (length (rowsOf file)))
+    (record { there = true; place = rowNo (rowsOf file) k .place; layout = chunkAt file (rowNo (rowsOf file) k .place) })
+    (record { there = false; place = 0; layout = noLayout })

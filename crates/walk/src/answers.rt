@@ -1,0 +1,34 @@
+// What the functions of this crate answer.
+use chunk::Layout;
+
+// The file header; where the number is not 0, all else is 0 and false.
+pub struct Header {
+    pub number: u8,
+    pub end: usize,
+    // the mark's length
+    pub mark: usize,
+    pub llc: bool,
+    // header sum good
+    pub good: bool,
+}
+
+pub struct Step {
+    // the next row is there, and this is its chunk; else the reading stops with the number
+    pub go: bool,
+    pub number: u8,
+    pub layout: Layout,
+}
+
+pub struct Walk {
+    pub count: usize,
+    pub stop: usize,
+    pub number: u8,
+    // header sum good
+    pub good: bool,
+}
+
+pub struct Found {
+    pub there: bool,
+    pub place: usize,
+    pub layout: Layout,
+}
