@@ -35,7 +35,7 @@ fn over_limit(a: usize, b: usize, c: usize, d: usize) -> bool
 }
 
 // No byte of the mark is zero.
-fn is_clear(mark: &[u8]) -> bool
+pub fn is_clear(mark: &[u8]) -> bool
     ensures { λ r. ⌜ r ≡ all nonZero (now (mark .entry)) ⌝ }
 {
     let mut i: usize = 0;
@@ -66,7 +66,7 @@ fn title_values(strategy: [u8; 3], mark: usize) -> [u8; 6]
 }
 
 // The values of the integrity data's lines, one behind the other, agents padded with spaces.
-fn integrity_values(
+pub fn integrity_values(
     serial: [u8; 38],
     recorded: [u8; 8],
     recorder: &[u8],

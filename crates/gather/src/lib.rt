@@ -1,6 +1,6 @@
 // The call gather: "joins, in order, one short ID's mini-chunk data into a lent buffer and answers the length; bytes past
 // it keep their old state". The row is that of a reading with rows enough, which the crate walk goes through without a
-// table; its contents are gone through by the crate multi; no sum is taken. On a refusal nothing is written. The contract
+// table; its contents are gone through by the crate multi; no chunk's sum is taken. On a refusal nothing is written. The contract
 // cites gather and gatherAnswer of the crate metafile (specs/Calls, Answers); it rests on the laws of rows in the crate
 // contents.
 ghost use mathlib.Core.Path.{_≡_};

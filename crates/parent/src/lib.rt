@@ -1,6 +1,6 @@
 // The call parent: "Parent of row k, dependency j, both from 0: the row with that serial and whether the sub-formats
 // agree, or missing". The rows are those of a reading with rows enough, which the crate walk goes through without a
-// table; no sum is taken and nothing is written. The contract cites parent and parentAnswer of the crate metafile
+// table; no chunk's sum is taken and nothing is written. The contract cites parent and parentAnswer of the crate metafile
 // (specs/Calls, Answers); it rests on the laws of rows in the crate contents.
 ghost use mathlib.Core.Path.{_≡_};
 ghost use Prim.Native.Nat.{_+_, _≤_};

@@ -1,0 +1,10 @@
+-- `append::tests::is_clean` meets its contract. Assumes nothing.
+use Rattle.append.proofs.Held.{clean-is}
+use Rattle.append.proofs.tests.is_clean.Statement.{statement}
+use Rattle.append.proofs.tests.is_clean.Tie as tie
+
+returns : tie.Need-returns
+returns c = clean-is (c .before .before .args .file .now) (c .before .before .args .w) (c .before .before .pre)
+
+pub is-clean-spec : {M : Type 1} → statement M
+is-clean-spec = tie.close (tie.spec returns)

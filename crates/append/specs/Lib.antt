@@ -1,0 +1,7 @@
+-- What the contracts cite.
+--     Given    what append is given, from its parameters, and its outcome
+--     Values   values of lines one behind the other
+--     Tests    append's tests in groups
+pub mod Given
+pub mod Values
+pub mod Tests

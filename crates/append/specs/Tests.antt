@@ -1,0 +1,36 @@
+-- Append's tests in groups, each over what it looks at. Assumes nothing.
+use Prim.Native.Nat.{ℕ}
+use mathlib.Core.Bool.{Bool, not, _&&_, _||_}
+use mathlib.Core.List.{List, [], _∷_, _++_}
+use lib.Dec.{ltb}
+use lib.ListN.{length}
+use Rattle.metafile.specs.declared.Description.{Description}
+use Rattle.metafile.specs.Bytes.{all, nonZero, same, find}
+use Rattle.metafile.specs.Fields.{known}
+use Rattle.metafile.specs.Lines.{BIN}
+use Rattle.metafile.specs.Header.{isLLC, markOf}
+use Rattle.metafile.specs.Chunk.{multiName}
+use Rattle.metafile.specs.Reading.{rowsOf, serialsOf}
+use Rattle.metafile.specs.Answers.{Test, refuse}
+use Rattle.metafile.specs.Append.{subFormatGiven, appendFormed, allBelow, repeated, parentsWrong}
+
+-- 6 and 17: the description
+unfoldable pub descriptionTests : Description → List Test
+descriptionTests d = refuse 6 (not (appendFormed d)) ∷ refuse 17 (same (subFormatGiven d) multiName) ∷ []
+
+-- 13, 9 and 15: rows named as parents, the serial number, the mark, held against the file
+unfoldable pub fileTests : List ℕ → List ℕ → List ℕ → List Test
+fileTests file parents serial =
+    refuse 13 (parentsWrong (rowsOf file) parents)
+    ∷ refuse 9 (known serial (serialsOf (rowsOf file)))
+    ∷ refuse 15 (not (all nonZero (markOf file)))
+    ∷ []
+
+-- 13 for a file of n rows
+unfoldable pub parentsRefused : ℕ → List ℕ → Bool
+parentsRefused n ks = not (allBelow n ks) || repeated ks || ltb 16 (length ks)
+
+-- 16
+unfoldable pub openRefused : List ℕ → List ℕ → List ℕ → Bool → Bool
+openRefused file generic contents isOpen =
+    isOpen && (isLLC file || same generic BIN || ltb (find (markOf file) (contents ++ markOf file)) (length contents))

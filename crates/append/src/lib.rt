@@ -1,0 +1,54 @@
+// append: a chunk added to a stored file, in a longer lent buffer. "Three writes, each on disk before the next: header
+// with content length line; data; closing. The answer is the three ends." Its contract is one equation with metafile's
+// Append, refusals included: then every buffer is untouched. It rests on walk for the reading of the old file, on lines
+// for the lines that are judged and written, on begin for the values of the integrity data, on search for the mark.
+//     tests    "Append tests 11, 12, 6, 17, 13, 9, 15, 16, 18"
+//     parents  13: rows named as parents
+//     values   the values of the lines, from the description and from parents
+//     write    the three writes
+mod parents;
+mod tests;
+mod values;
+mod write;
+
+use metafile::AppendAnswer;
+use metafile::Description;
+ghost use mathlib.Core.Path.{_≡_};
+ghost use Rattle.metafile.specs.Answers.{appendAnswer};
+ghost use Rattle.metafile.specs.Append.{append};
+ghost use Rattle.append.specs.Given.{givenOf, outcome};
+
+pub fn append(
+    buffer: &mut [u8],
+    length: usize,
+    description: Description,
+    parents: &[usize],
+    specific: &[u8],
+    contents: &[u8],
+    open: bool,
+) -> AppendAnswer
+    ensures { λ r. ⌜ outcome (appendAnswer r) (now (buffer .exit))
+        ≡ append (now (buffer .entry)) length (givenOf description (now (parents .entry)) (now (specific .entry)) (now (contents .entry)) «open») ⌝ }
+{
+    let number = tests::refusal(
+        buffer,
+        length,
+        description,
+        parents,
+        specific,
+        contents,
+        open,
+    );
+    if number != 0 {
+        return AppendAnswer::Refused(number);
+    }
+    write::put_chunk(
+        buffer,
+        length,
+        description,
+        parents,
+        specific,
+        contents,
+        open,
+    )
+}

@@ -1,0 +1,192 @@
+// Append's tests, in the order 11, 12, 6, 17, 13, 9, 15, 16, 18: the first that refuses gives the number.
+use crate::parents::parents_wrong;
+use crate::values::closing_values;
+use crate::values::given_values;
+use metafile::Description;
+use walk::Header;
+use walk::Walk;
+ghost use mathlib.Core.Bool.{_||_};
+ghost use mathlib.Core.List.{[], _∷_, _++_};
+ghost use mathlib.Core.Path.{_≡_};
+ghost use Prim.Native.Nat.{_+_, _*_, _≤_};
+ghost use lib.Dec.{ltb};
+ghost use Rattle.metafile.specs.Bytes.{same, find};
+ghost use Rattle.metafile.specs.Chunk.{multiName};
+ghost use Rattle.metafile.specs.Reading.{reading, isClean};
+ghost use Rattle.metafile.specs.Answers.{overLimit, firstRefusal};
+ghost use Rattle.metafile.specs.Append.{subFormatGiven, appendFormed, appendTests};
+ghost use Rattle.walk.specs.Walk.{headerOf, walkOf};
+ghost use Rattle.append.specs.Given.{givenOf};
+ghost use Rattle.append.specs.Tests.{descriptionTests, fileTests, openRefused};
+
+const LIMIT: usize = 1073741824;
+
+// The listed word BIN, and the first of the lines given and of the integrity data, by their numbers.
+const BIN: usize = 2;
+
+const SUB_FORMAT: usize = 1;
+
+const CHUNK_SERIAL: usize = 16;
+
+// 11: a lent byte buffer over the limit, or length over the buffer's.
+fn over_limit(
+    buffer: usize,
+    length: usize,
+    specific: usize,
+    contents: usize,
+    d: Description,
+) -> bool
+    ensures { λ r. ⌜ r ≡ (overLimit (buffer ∷ specific ∷ contents ∷ d .subformat .given ∷ d .recorder .given ∷ d .writer .given ∷ []) || ltb buffer length) ⌝ }
+{
+    let name = d.subformat;
+    let recorder = d.recorder;
+    let writer = d.writer;
+    (LIMIT < buffer)
+        | (LIMIT < specific)
+        | (LIMIT < contents)
+        | (LIMIT < name.given)
+        | (LIMIT < recorder.given)
+        | (LIMIT < writer.given)
+        | (buffer < length)
+}
+
+// 12
+fn is_clean(file: &[u8], w: Walk) -> bool
+    requires { ⌜ w ≡ walkOf (now file) ⌝ }
+    ensures { λ r. ⌜ r ≡ isClean (now (file .entry)) (reading (now (file .entry))) ⌝ }
+{
+    (w.number == 0) & (w.stop == file.len())
+}
+
+// 6: each field as the reader judges it; an over-long text first.
+fn is_formed(d: Description) -> bool
+    ensures { λ r. ⌜ r ≡ appendFormed d ⌝ }
+{
+    let name = d.subformat;
+    let recorder = d.recorder;
+    let writer = d.writer;
+    if 256 < name.given {
+        return false;
+    }
+    if 32 < recorder.given {
+        return false;
+    }
+    if 32 < writer.given {
+        return false;
+    }
+    let given = given_values(d);
+    let closing = closing_values(d);
+    lines::values_formed(SUB_FORMAT, 6, &given) & lines::values_formed(CHUNK_SERIAL, 5, &closing)
+}
+
+// 17
+fn is_multichunk(d: Description) -> bool
+    requires { ⌜ d .subformat .given ≤ 256 ⌝ }
+    ensures { λ r. ⌜ r ≡ same (subFormatGiven d) multiName ⌝ }
+{
+    let given = given_values(d);
+    chunk::is_multi_name(&given[..256])
+}
+
+fn description_refusal(d: Description) -> u8
+    ensures { λ r. ⌜ r ≡ firstRefusal (descriptionTests d) ⌝ }
+{
+    if !is_formed(d) {
+        return 6;
+    }
+    if is_multichunk(d) {
+        return 17;
+    }
+    0
+}
+
+// 13, 9, 15: against the rows and the mark of a file whose header is whole.
+fn file_refusal(file: &[u8], h: Header, w: Walk, parents: &[usize], serial: [u8; 38]) -> u8
+    requires { ⌜ h ≡ headerOf (now file) ⌝ }
+    requires { ⌜ h .number ≡ 0 ⌝ }
+    requires { ⌜ w ≡ walkOf (now file) ⌝ }
+    ensures { λ r. ⌜ r ≡ firstRefusal (fileTests (now (file .entry)) (now (parents .entry)) serial) ⌝ }
+{
+    if parents_wrong(w.count, parents) {
+        return 13;
+    }
+    if walk::row_with(file, h, serial) < w.count {
+        return 9;
+    }
+    let end = 65 + h.mark;
+    if !begin::is_clear(&file[65..end]) {
+        return 15;
+    }
+    0
+}
+
+// The first place of the mark in data and mark, which are searched without being joined.
+fn first_found(mark: &[u8], contents: &[u8]) -> usize
+    ensures { λ r. ⌜ r ≡ find (now (mark .entry)) (now (contents .entry) ++ now (mark .entry)) ⌝ }
+{
+    search::find_mark(mark, contents, mark)
+}
+
+// 16
+fn open_wrong(file: &[u8], h: Header, generic: [u8; 3], contents: &[u8], open: bool) -> bool
+    requires { ⌜ h ≡ headerOf (now file) ⌝ }
+    requires { ⌜ h .number ≡ 0 ⌝ }
+    ensures { λ r. ⌜ r ≡ openRefused (now (file .entry)) generic (now (contents .entry)) «open» ⌝ }
+{
+    if !open {
+        return false;
+    }
+    let end = 65 + h.mark;
+    h.llc
+        | lines::is_word(&generic, 0, BIN)
+        | (first_found(&file[65..end], contents) < contents.len())
+}
+
+// The place behind the new chunk.
+fn new_end(length: usize, parents: usize, specific: usize, contents: usize, mark: usize) -> usize
+    requires { ⌜ (length ≤ 1073741824) × (parents ≤ 16) × (specific ≤ 1073741824) × (contents ≤ 1073741824) × (mark ≤ 1073741824) ⌝ }
+    ensures { λ r. ⌜ r ≡ length + (602 + 344 * parents + specific) + contents + (254 + 2 * mark) ⌝ }
+{
+    length + (602 + 344 * parents + specific) + contents + (254 + 2 * mark)
+}
+
+pub fn refusal(
+    buffer: &[u8],
+    length: usize,
+    d: Description,
+    parents: &[usize],
+    specific: &[u8],
+    contents: &[u8],
+    open: bool,
+) -> u8
+    ensures { λ r. ⌜ r ≡ firstRefusal (appendTests (now (buffer .entry)) length (givenOf d (now (parents .entry)) (now (specific .entry)) (now (contents .entry)) «open»)) ⌝ }
+{
+    let serial = d.serial;
+    let generic = d.generic;
+    if over_limit(buffer.len(), length, specific.len(), contents.len(), d) {
+        return 11;
+    }
+    let file = &buffer[..length];
+    let w = walk::walk(file);
+    if !is_clean(file, w) {
+        return 12;
+    }
+    let own = description_refusal(d);
+    if own != 0 {
+        return own;
+    }
+    let h = walk::header(file);
+    let there = file_refusal(file, h, w, parents, serial);
+    if there != 0 {
+        return there;
+    }
+    if open_wrong(file, h, generic, contents, open) {
+        return 16;
+    }
+    let n = h.mark;
+    let end = new_end(length, parents.len(), specific.len(), contents.len(), n);
+    if buffer.len() < end {
+        return 18;
+    }
+    0
+}
