@@ -1,6 +1,8 @@
 -- Samples    values that the joint proof and the examples are given
 -- Computed   opens every definition, for proofs by computing
 -- Joint      the starred cases of the paper, as one theorem
+-- Given      a text that is given, and what append sees of it
 pub mod Computed
 pub mod Samples
 pub mod Joint
+pub mod Given

@@ -9,6 +9,7 @@
 --     Reading    rows, stop, header sum, number; clean; rows enough
 --     Answers    what the calls answer, by number and values; tests in order
 --     Begin      begin
+--     Description  the chunk description's methods
 --     Append     append: tests, the three writes, the buffer afterwards
 --     Calls      read, parent, contents, gather
 --     Cut        what a power cut leaves
@@ -24,6 +25,7 @@ pub mod Chunk
 pub mod Reading
 pub mod Answers
 pub mod Begin
+pub mod Description
 pub mod Append
 pub mod Calls
 pub mod Cut

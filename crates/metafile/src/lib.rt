@@ -1,5 +1,6 @@
 // The types of a SEG-UKOOA ADS metafile 1.00 that the definitions in specs/ name: the row, the answers of the six
-// calls, and the description of a chunk to append. There is no function here: specs/ says what each call gives.
+// calls, and the description of a chunk to append, with its methods (fields_given.rt). specs/ says what each call gives.
+mod fields_given;
 
 // One chunk of the table. Places are counted from the file's first byte.
 #[repr(C)]
