@@ -1,0 +1,67 @@
+-- 76 rows are enough for 65,536 bytes, since a row takes 856: what read leaves in a table of so many is the reading with
+-- rows enough, and number 10 doesn't come ("A program reads a file of up to 65,536 bytes .. with rows enough").
+-- Rests on the laws of a file in chunk_laws. Assumes nothing.
+use Prim.Native.Nat.{ℕ, _≤_, _<_}
+use mathlib.Core.Path.{_≡_, refl, sym, ap, _∙_}
+use mathlib.Core.List.{List, [], _∷_, _++_}
+use native.Mathlib.Omega.{arith}
+use lib.ListN.{length, take, drop, replicate, length-take, length-replicate}
+use lib.Seq.{take-at}
+use borrow.Author.Tests.{lt-ltb, le-ltb}
+use Rattle.metafile.specs.declared.Row.{Row}
+use Rattle.metafile.specs.declared.ReadAnswer.{ReadAnswer}
+use Rattle.metafile.specs.Reading.{Reading, readFile, reading, rowsOf}
+use Rattle.metafile.specs.Append.{noRow}
+use Rattle.metafile.specs.Calls.{ReadOutcome, readAnswer, filled, read}
+use Rattle.metafile.specs.Listing.{endLine, listed, listing}
+use Rattle.chunk_laws.proofs.File.{file-few, file-reading}
+use Rattle.read.specs.State.{readOutcome}
+use Rattle.read.proofs.Laws.{limit-under}
+use Rattle.listing_text.specs.Text.{tableReading}
+
+module _ (file : List ℕ) (rows : List Row) (a : ReadAnswer) (under : length file ≤ 65536) (is : readOutcome a rows ≡ read file (replicate 76 noRow)) where
+  few : length (rowsOf file) ≤ 76
+  few = omega (arith, file-few file)
+
+  read-is : read file (replicate 76 noRow) ≡ record { answer = readAnswer (reading file); table = filled (reading file) (replicate 76 noRow) }
+  unfolding read
+  read-is = rw (limit-under (length file) (omega arith), length-replicate 76 noRow, file-reading 76 file few)
+
+  answer-is : a ≡ readAnswer (reading file)
+  unfolding readOutcome
+  answer-is = ap (λ (o : ReadOutcome). o .answer) (is ∙ read-is)
+
+  rows-are : rows ≡ filled (reading file) (replicate 76 noRow)
+  unfolding readOutcome
+  rows-are = ap (λ (o : ReadOutcome). o .table) (is ∙ read-is)
+
+  count-is : a .count ≡ length (reading file .rows)
+  unfolding readAnswer
+  count-is = ap (λ (x : ReadAnswer). x .count) answer-is
+
+  pub count-few : a .count ≤ 76
+  unfolding rowsOf
+  count-few = omega (arith, count-is, few)
+
+  table-rows : take (a .count) rows ≡ reading file .rows
+  unfolding filled
+  table-rows = rw rows-are (take-at (reading file .rows) _ (a .count) (sym count-is))
+
+  pub count-inside : a .count ≤ length rows
+  count-inside = let h = simp length-take at (ap length table-rows) in omega (arith, h, count-is)
+
+  joined : (rs : List Row) (r : Reading) → rs ≡ r .rows → a ≡ readAnswer r → record { rows = rs; stop = a .stop; good = a .good; number = a .number } ≡ r
+  unfolding readAnswer
+  joined rs r p q = rw (p, q)
+
+  pub table-is : tableReading rows a ≡ reading file
+  unfolding tableReading
+  table-is = joined _ (reading file) table-rows answer-is
+
+  pub listing-short : listed (tableReading rows a) ≡ listing file
+  unfolding listing
+  listing-short = rw (table-is, le-ltb 65536 (length file) under)
+
+pub listing-long : (file : List ℕ) → 65536 < length file → endLine 0 11 ≡ listing file
+unfolding listing
+listing-long file h = rw (lt-ltb 65536 (length file) h)

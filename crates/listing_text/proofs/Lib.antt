@@ -1,0 +1,4 @@
+pub mod Answers
+pub mod Enough
+pub mod LendArray
+pub mod Texts

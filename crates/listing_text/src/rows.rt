@@ -1,0 +1,46 @@
+// The table of a reading, by value, so that its callers lend no table. 76 rows are enough for 65,536 bytes.
+ghost use mathlib.Core.Path.{_≡_};
+ghost use lib.ListN.{replicate};
+ghost use Rattle.metafile.specs.Append.{noRow};
+ghost use Rattle.metafile.specs.Calls.{read};
+ghost use Rattle.read.specs.State.{readOutcome};
+use metafile::ReadAnswer;
+use metafile::Row;
+
+pub struct Table {
+    pub rows: [Row; 76],
+    pub answer: ReadAnswer,
+}
+
+fn no_rows() -> [Row; 76]
+    ensures { λ r. ⌜ r ≡ replicate 76 noRow ⌝ }
+{
+    let row = Row {
+        serial: [0u8; 38],
+        place: 0,
+        header: 0,
+        contents: 0,
+        bytes: 0,
+        end: 0,
+        dependencies: 0,
+        offset: 0,
+        multichunk: false,
+        good: false,
+    };
+    [row; 76]
+}
+
+fn joined(rows: [Row; 76], answer: ReadAnswer) -> Table
+    ensures { λ r. ⌜ (r .rows ≡ rows) × (r .answer ≡ answer) ⌝ }
+{
+    Table { rows, answer }
+}
+
+// The rows of the file, read into 76.
+pub fn read_table(file: &[u8]) -> Table
+    ensures { λ r. ⌜ readOutcome (r .answer) (r .rows) ≡ read (now (file .entry)) (replicate 76 noRow) ⌝ }
+{
+    let mut rows = no_rows();
+    let answer = read::read(file, &mut rows);
+    joined(rows, answer)
+}
