@@ -26,12 +26,26 @@ def header(strategy, mark, off=0):
     return closed(title.encode(), mark, serial("00007"), off)
 
 
+TIMES = ("Chunk_Time_Synch_Type=GEN\nChunk_Time_Standard=%s\nChunk_Time_Offset=+0000      8.035\nChunk_Event_Synch=%s\n"
+         % ("UTC".ljust(41), "NUL".ljust(41)))
+
+
+def head(sub_format):
+    return ("Chunk_Header_Length=%012d\nSubFormat_ID=%s\nGeneric_Type=TXT\n%sChunk_Dependency_Length=%012d\nChunk_Dependency_Count=%04d\n"
+            % (536, sub_format.ljust(256), TIMES, 29, 0)).encode()
+
+
 def chunk(mark, number, data, is_open=False, off=0):
-    head = ("Chunk_Header_Length=%012d\nSubFormat_ID=%s\nGeneric_Type=TXT\nChunk_Time_Synch_Type=GEN\nChunk_Time_Standard=%s\n"
-            "Chunk_Time_Offset=+0000      8.035\nChunk_Event_Synch=%s\nChunk_Dependency_Length=%012d\nChunk_Dependency_Count=%04d\n"
-            % (536, "ADS\\DATA\\TEST".ljust(256), "UTC".ljust(41), "NUL".ljust(41), 29, 0))
     counted = "Chunk_Content_Length=%012d\n" % (0 if is_open else len(data) + 1)
-    return closed(head.encode() + counted.encode() + data, mark, number, off)
+    return closed(head("ADS\\DATA\\TEST") + counted.encode() + data, mark, number, off)
+
+
+# a MultiChunk with one type and these mini-chunks
+def multi(mark, number, short_id, minis):
+    types = "Multi_Chunk_Header_Length=%012d\nMiniChunk_Type_Count=%04d\n" % (27 + 518, 1)
+    types += "SubType_Header_Length=%012d\nSubFormat_ID=%s\nSubFormat_Short_ID=%s\n" % (484, "ADS\\DATA\\DEPTH".ljust(256), short_id.ljust(10))
+    data = b"".join(("MiniChunk=%s%012d" % (short_id.ljust(10), len(m))).encode() + m for m in minis)
+    return closed(head("ADS\\SYS\\MultiChunk") + (types + TIMES).encode() + data, mark, number)
 
 
 A, B = serial("00042"), serial("00043")
@@ -48,6 +62,8 @@ CASES = {
     "listing_long": (b"0" * 65537, "end 0 11\n"),
     # a mark of 90 bytes: the header has 499 bytes, the open chunk 568 + 34 + 5 of data + 90 + 254 + 90
     "listing_open": (header("NUL", MARK) + chunk(MARK, A, b"12345", True), "header good\nchunks 1\n0 499 568 5 good " + A + "\nend 1540 0\n"),
+    # contents of 65 + 518 + (32 + 5) + (32 + 0) bytes, the chunk 568 + 652 + 254
+    "listing_multi": (header("LLC", b"") + multi(b"", A, "P2/91", [b"12345", b""]), "header good\nchunks 1\n0 319 568 652 good " + A + "\nend 1793 0\n"),
     # both sums are wrong by one; a bad sum is no refusal
     "listing_sums": (header("LLC", b"", 1) + chunk(b"", A, b"abc", False, 1), "header bad\nchunks 1\n0 319 568 3 bad " + A + "\nend 1178 0\n"),
     # "9 whole chunk, serial already in a row"
