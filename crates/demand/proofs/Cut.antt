@@ -30,7 +30,7 @@ use Rattle.laws.proofs.Table.{strict, strictKind, allStrict, fault-enough, faul
 use Rattle.laws.proofs.Distances.{lines, size-closing}
 use Rattle.chunk_laws.proofs.Chunk.{Whole, fits}
 use Rattle.demand.proofs.Damage.{Damaged, damaged-append, damaged-more, damaged-length, damaged-drop, mend, zeroed-part}
-use Rattle.demand.proofs.Taken.{Taken}
+use Rattle.demand.specs.Taken.{Taken}
 use Rattle.demand.proofs.Stretches.{chunkBytes, tailPart, chunk-closed, length-third, length-chunk}
 use Rattle.demand.proofs.Numbers.{isMulti-is, at-tail, contentCount-is, mark-first, contentsPlace-is, behind-line}
 

@@ -23,7 +23,7 @@ use Rattle.laws.proofs.Table.{field-long, run-split, write-run}
 use Rattle.laws.proofs.Distances.{lines}
 use Rattle.laws.proofs.Closed.{closed-run, closed-good, closed-serial}
 use Rattle.chunk_laws.proofs.Chunk.{Whole}
-use Rattle.demand.proofs.Taken.{Taken}
+use Rattle.demand.specs.Taken.{Taken}
 use Rattle.demand.proofs.Formed.{formed-head, formed-dependencies, formed-line, standard-three}
 use Rattle.demand.proofs.Stretches.{headPart, dependencyPart, linePart, tailPart, chunkBytes, chunk-closed, length-head, length-third, length-chunk, synchType-at, standard-at, offset-at}
 use Rattle.demand.proofs.Numbers.{isMulti-is, dependencies-is, specific-is, lengths-is, specificPlace-is, headerBytes-is, at-specific, at-tail, contentCount-is, at-contents, opened-right, plainBytes-is, contentsBytes-is, contentsPlace-is, closingPlace-is, at-closing}

@@ -26,7 +26,7 @@ use Rattle.laws.proofs.Table.{formed-width, formed-split, lefts}
 use Rattle.laws.proofs.Distances.{lines}
 use Rattle.laws.proofs.Closed.{fixed-formed, count-formed}
 use Rattle.chunk_laws.proofs.Places.{row-placed, serial-taken, subFormat-taken}
-use Rattle.demand.proofs.Taken.{Taken}
+use Rattle.demand.specs.Taken.{Taken}
 
 -- a label, and a number in n digits
 line-formed : (label : List ℕ) (n most x : ℕ) (fs : List Field) (vs : List (List ℕ)) → x < 10 ^ n → x ≤ most

@@ -26,7 +26,7 @@ use Rattle.laws.proofs.First.{and-both}
 use Rattle.laws.proofs.Table.{write-at, write-split, write-size, formed-split, lefts}
 use Rattle.laws.proofs.Distances.{lines}
 use Rattle.laws.proofs.Closed.{fixed-formed, closed-serial, closed-recording-date, closed-recording-agent, closed-writing-date, closed-writing-agent}
-use Rattle.demand.proofs.Taken.{Taken}
+use Rattle.demand.specs.Taken.{Taken}
 use Rattle.demand.proofs.Formed.{formed-dependencies}
 use Rattle.demand.proofs.Stretches.{headPart, dependencyPart, chunkBytes, chunk-closed, skip, length-head, headerLength-at, subFormat-at, generic-at, synchType-at, standard-at, offset-at, event-at, dependencyLength-at, dependencyCount-at}
 use Rattle.demand.proofs.Numbers.{headerBytes-is, at-specific, at-tail, count-at, contentsPlace-is, behind-line}

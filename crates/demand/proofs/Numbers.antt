@@ -25,7 +25,7 @@ use Rattle.laws.proofs.Lists.{same-refl, find-local, find-least}
 use Rattle.laws.proofs.Digits.{countValue-digitsOf}
 use Rattle.laws.proofs.Table.{write-at, lefts}
 use Rattle.laws.proofs.Distances.{lines}
-use Rattle.demand.proofs.Taken.{Taken}
+use Rattle.demand.specs.Taken.{Taken}
 use Rattle.demand.proofs.Formed.{count-fits, formed-line}
 use Rattle.demand.proofs.Stretches.{headPart, dependencyPart, linePart, tailPart, chunkBytes, chunk-closed, skip, length-head, length-dependencies, length-line, length-first, headerLength-at, subFormat-at, dependencyLength-at, dependencyCount-at}
 

@@ -21,7 +21,7 @@ use Rattle.laws.proofs.Table.{write-size, write-at, lefts}
 use Rattle.laws.proofs.Distances.{lines, size-head}
 use Rattle.laws.proofs.Closed.{closed-length}
 use Rattle.chunk_laws.proofs.Chunk.{size-behind-count}
-use Rattle.demand.proofs.Taken.{Taken}
+use Rattle.demand.specs.Taken.{Taken}
 use Rattle.demand.proofs.Formed.{formed-head, formed-dependencies, formed-line}
 
 unfoldable pub headPart : Given → List ℕ

@@ -1,5 +1,5 @@
 -- What an accepted append says of its tests ("Append tests 11, 12, 6, 17, 13, 9, 15, 16, 18"): none holds.
---     Taken    of the file and what was given
+--     taken    of the file and what was given: the record Taken of specs/
 --     Lent     of the buffer: the file lies in it, the new end too, and it is not over 2^30
 --     accepted   both, the three ends, and the buffer afterwards
 -- Assumes nothing.
@@ -10,32 +10,17 @@ use mathlib.Core.List.{List, [], _∷_}
 use lib.Dec.{ltb, eqb}
 use lib.ListN.{length, take}
 use borrow.Author.Tests.{ltb-false, not-false, eqb-true}
-use Rattle.metafile.specs.Bytes.{all, isZero, nonZero, same}
-use Rattle.metafile.specs.Fields.{known}
+use Rattle.metafile.specs.Bytes.{isZero}
 use Rattle.metafile.specs.Lines.{linesOf, formed}
 use Rattle.metafile.specs.Closing.{integrityLines, integrityValues}
-use Rattle.metafile.specs.Header.{markOf}
-use Rattle.metafile.specs.Chunk.{givenLines, multiName}
-use Rattle.metafile.specs.Reading.{reading, rowsOf, serialsOf, isClean}
+use Rattle.metafile.specs.Chunk.{givenLines}
+use Rattle.metafile.specs.Reading.{reading, rowsOf, isClean}
 use Rattle.metafile.specs.Answers.{result, limit, overLimit, Outcome, placed, firstRefusal}
-use Rattle.metafile.specs.Append.{Given, subFormatGiven, givenValues, integrityGiven, overLong, appendFormed, allBelow, repeated, parentsWrong, newChunk, firstEnd, secondEnd, thirdEnd, openWrong, appendOverLimit, appendTests, append}
+use Rattle.metafile.specs.Append.{Given, givenValues, integrityGiven, overLong, appendFormed, allBelow, repeated, parentsWrong, newChunk, firstEnd, secondEnd, thirdEnd, appendOverLimit, appendTests, append}
 use Rattle.metafile.specs.Demand.{Accepted}
+pub use Rattle.demand.specs.Taken.{Taken}
 use Rattle.laws.proofs.First.{and-both, or-false, isZero-zero}
 use Rattle.laws.proofs.Accepted.{refusal-none, accepted-none, accepted-is}
-
-pub record Taken (old : List ℕ) (g : Given) : Type 0 where
-  pub specific-small : length (g .specific) ≤ 2 ^ 30
-  pub contents-small : length (g .contents) ≤ 2 ^ 30
-  pub number-zero : reading old .number ≡ 0
-  pub stop-end : reading old .stop ≡ length old
-  pub in-given : formed (linesOf givenLines) (givenValues (g .description)) ≡ true
-  pub in-integrity : formed (linesOf integrityLines) (integrityValues (integrityGiven (g .description))) ≡ true
-  pub plain : same (subFormatGiven (g .description)) multiName ≡ false
-  pub parents-below : allBelow (length (rowsOf old)) (g .parents) ≡ true
-  pub parents-few : length (g .parents) ≤ 16
-  pub new-serial : known (g .description .serial) (serialsOf (rowsOf old)) ≡ false
-  pub clear : all nonZero (markOf old) ≡ true
-  pub open-right : openWrong old g ≡ false
 
 pub record Lent (buffer : List ℕ) (len : ℕ) (g : Given) : Type 0 where
   pub buffer-small : length buffer ≤ 2 ^ 30

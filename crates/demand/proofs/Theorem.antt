@@ -18,7 +18,8 @@ use Rattle.metafile.specs.Append.{Given, firstEnd, secondEnd, thirdEnd}
 use Rattle.metafile.specs.Calls.{ReadOutcome, readAnswer, filled, read}
 use Rattle.metafile.specs.Demand.{newRow, HandedIn, Clean, Safe, Demand3}
 use Rattle.chunk_laws.proofs.File.{clean-begun, header-whole, fits-headerEnd, headerEnd-least, file-few}
-use Rattle.demand.proofs.Taken.{Taken, Appended, accepted}
+use Rattle.demand.specs.Taken.{Taken}
+use Rattle.demand.proofs.Taken.{Appended, accepted}
 use Rattle.demand.proofs.Stretches.{chunkBytes, length-chunk}
 use Rattle.demand.proofs.Cut.{leftOf, leftOf-length}
 use Rattle.demand.proofs.Buffer.{finished-is, remains-is}

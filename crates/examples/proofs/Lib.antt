@@ -7,6 +7,7 @@
 -- Marks      chunks under NUL, read; wrong sums
 -- Appends    accepted appends; begun files
 -- Refusals   refused appends and begins
+-- Without    without test 15 demand 3 is false
 pub mod Texts
 pub mod Readings
 pub mod Faults
@@ -16,3 +17,4 @@ pub mod Multis
 pub mod Marks
 pub mod Appends
 pub mod Refusals
+pub mod Without

@@ -17,21 +17,21 @@ use Rattle.metafile.specs.Listing.{endLine, listed, listing}
 use Rattle.chunk_laws.proofs.File.{file-few, file-reading}
 use Rattle.read.specs.State.{readOutcome}
 use Rattle.read.proofs.Laws.{limit-under}
-use Rattle.listing_text.specs.Text.{tableReading}
+use Rattle.listing_text.specs.Text.{tableRows, tableReading}
 
-module _ (file : List ℕ) (rows : List Row) (a : ReadAnswer) (under : length file ≤ 65536) (is : readOutcome a rows ≡ read file (replicate 76 noRow)) where
-  few : length (rowsOf file) ≤ 76
+module _ (file : List ℕ) (rows : List Row) (a : ReadAnswer) (under : length file ≤ 65536) (is : readOutcome a rows ≡ read file (replicate tableRows noRow)) where
+  few : length (rowsOf file) ≤ tableRows
   few = omega (arith, file-few file)
 
-  read-is : read file (replicate 76 noRow) ≡ record { answer = readAnswer (reading file); table = filled (reading file) (replicate 76 noRow) }
+  read-is : read file (replicate tableRows noRow) ≡ record { answer = readAnswer (reading file); table = filled (reading file) (replicate tableRows noRow) }
   unfolding read
-  read-is = rw (limit-under (length file) (omega arith), length-replicate 76 noRow, file-reading 76 file few)
+  read-is = rw (limit-under (length file) (omega arith), length-replicate tableRows noRow, file-reading tableRows file few)
 
   answer-is : a ≡ readAnswer (reading file)
   unfolding readOutcome
   answer-is = ap (λ (o : ReadOutcome). o .answer) (is ∙ read-is)
 
-  rows-are : rows ≡ filled (reading file) (replicate 76 noRow)
+  rows-are : rows ≡ filled (reading file) (replicate tableRows noRow)
   unfolding readOutcome
   rows-are = ap (λ (o : ReadOutcome). o .table) (is ∙ read-is)
 
@@ -39,7 +39,7 @@ module _ (file : List ℕ) (rows : List Row) (a : ReadAnswer) (under : length fi
   unfolding readAnswer
   count-is = ap (λ (x : ReadAnswer). x .count) answer-is
 
-  pub count-few : a .count ≤ 76
+  pub count-few : a .count ≤ tableRows
   unfolding rowsOf
   count-few = omega (arith, count-is, few)
 

@@ -15,6 +15,11 @@ use Rattle.metafile.specs.Listing.{decimal, lineOf, goodOrBad, listing}
 use Rattle.listing_text.specs.declared.ListingAnswer.{ListingAnswer}
 use Rattle.listing_text.specs.declared.ListingAnswer.the-variants.{Written, Refused}
 
+-- "A program reads a file of up to 65,536 bytes from standard input, with rows enough": a row takes at least 856
+-- bytes ("Empty contents, LLC000: count 1, chunk 856 bytes"), and 65,536 bytes hold 76 times so many
+abbrev pub tableRows : ℕ
+tableRows = 76
+
 -- these bytes are put at the place `at` of the buffer b; then it is c, and r is the place behind them
 pub record Put (v : List ℕ) (at : ℕ) (b : List ℕ) (r : ℕ) (c : List ℕ) : Type 0 where
   pub end-is : r ≡ at + length v

@@ -5,7 +5,7 @@
 //     rows     the table of 76 rows, by value
 // The contract cites listing of the crate metafile (specs/Listing) by listingOutcome of specs/Text; the laws are in
 // proofs/Texts (bytes put behind bytes), proofs/Enough (rows enough) and proofs/Answers (the two refusals).
-mod rows;
+pub mod rows;
 mod text;
 
 ghost use mathlib.Core.Path.{_≡_};

@@ -1,19 +1,24 @@
-// The table of a reading, by value, so that its callers lend no table. 76 rows are enough for 65,536 bytes.
+// The table of a reading, by value, so that its callers lend no table. 76 rows are enough for 65,536 bytes
+// (proofs/Enough).
 ghost use mathlib.Core.Path.{_≡_};
 ghost use lib.ListN.{replicate};
 ghost use Rattle.metafile.specs.Append.{noRow};
 ghost use Rattle.metafile.specs.Calls.{read};
 ghost use Rattle.read.specs.State.{readOutcome};
+ghost use Rattle.listing_text.specs.Text.{tableRows};
 use metafile::ReadAnswer;
 use metafile::Row;
 
+// tableRows of specs/Text
+pub const ROWS: usize = 76;
+
 pub struct Table {
-    pub rows: [Row; 76],
+    pub rows: [Row; ROWS],
     pub answer: ReadAnswer,
 }
 
-fn no_rows() -> [Row; 76]
-    ensures { λ r. ⌜ r ≡ replicate 76 noRow ⌝ }
+fn no_rows() -> [Row; ROWS]
+    ensures { λ r. ⌜ r ≡ replicate tableRows noRow ⌝ }
 {
     let row = Row {
         serial: [0u8; 38],
@@ -27,18 +32,18 @@ fn no_rows() -> [Row; 76]
         multichunk: false,
         good: false,
     };
-    [row; 76]
+    [row; ROWS]
 }
 
-fn joined(rows: [Row; 76], answer: ReadAnswer) -> Table
+fn joined(rows: [Row; ROWS], answer: ReadAnswer) -> Table
     ensures { λ r. ⌜ (r .rows ≡ rows) × (r .answer ≡ answer) ⌝ }
 {
     Table { rows, answer }
 }
 
-// The rows of the file, read into 76.
+// The rows of the file: all of them, where it has at most 65,536 bytes.
 pub fn read_table(file: &[u8]) -> Table
-    ensures { λ r. ⌜ readOutcome (r .answer) (r .rows) ≡ read (now (file .entry)) (replicate 76 noRow) ⌝ }
+    ensures { λ r. ⌜ readOutcome (r .answer) (r .rows) ≡ read (now (file .entry)) (replicate tableRows noRow) ⌝ }
 {
     let mut rows = no_rows();
     let answer = read::read(file, &mut rows);

@@ -5,7 +5,8 @@ ghost use mathlib.Core.List.{[], _∷_, _++_};
 ghost use Prim.Native.Nat.{_+_, _*_, _≤_};
 ghost use lib.ListN.{length, take, drop};
 ghost use Rattle.metafile.specs.Listing.{unpadded, decimal, goodOrBad, rowLine, rowLines, endLine, listed};
-ghost use Rattle.listing_text.specs.Text.{Put, numbers, headLines, tableReading};
+ghost use Rattle.listing_text.specs.Text.{tableRows, Put, numbers, headLines, tableReading};
+use crate::rows::ROWS;
 use crate::rows::Table;
 use metafile::Row;
 
@@ -85,8 +86,8 @@ fn put_row(buffer: &mut [u8], at: usize, k: usize, row: Row) -> usize
 }
 
 // The lines of the first `count` rows.
-fn put_rows(buffer: &mut [u8], at: usize, rows: [Row; 76], count: usize) -> usize
-    requires { ⌜ (count ≤ 76) × (at + 128 * count ≤ length (now buffer)) ⌝ }
+fn put_rows(buffer: &mut [u8], at: usize, rows: [Row; ROWS], count: usize) -> usize
+    requires { ⌜ (count ≤ tableRows) × (at + 128 * count ≤ length (now buffer)) ⌝ }
     ensures { λ r. ⌜ Put (rowLines 0 (take count rows)) at (now (buffer .entry)) r (now (buffer .exit)) × (r ≤ at + 128 * count) ⌝ }
 {
     let mut p = at;
@@ -121,7 +122,7 @@ fn put_head(buffer: &mut [u8], at: usize, good: bool, count: usize) -> usize
 
 // The listing of a table, at the start of a buffer that has room for any.
 pub fn put_listed(buffer: &mut [u8], table: Table) -> usize
-    requires { ⌜ (table .answer .count ≤ 76) × (table .answer .count ≤ length (table .rows)) × (10240 ≤ length (now buffer)) ⌝ }
+    requires { ⌜ (table .answer .count ≤ tableRows) × (table .answer .count ≤ length (table .rows)) × (10240 ≤ length (now buffer)) ⌝ }
     ensures { λ r. ⌜ Put (listed (tableReading (table .rows) (table .answer))) 0 (now (buffer .entry)) r (now (buffer .exit)) ⌝ }
 {
     let rows = table.rows;

@@ -31,6 +31,7 @@ pub enum BeginAnswer {
 }
 
 // What read answers beside the rows. It has all four values for every number.
+#[repr(C)]
 pub struct ReadAnswer {
     pub count: usize,
     pub stop: usize,
@@ -59,11 +60,13 @@ pub enum GatherAnswer {
 }
 
 // A text as it was given: its first bytes, and its whole length, which may be more than the field is wide.
+#[repr(C)]
 pub struct Text256 {
     pub bytes: [u8; 256],
     pub given: usize,
 }
 
+#[repr(C)]
 pub struct Text32 {
     pub bytes: [u8; 32],
     pub given: usize,
@@ -71,6 +74,7 @@ pub struct Text32 {
 
 // The fields of a chunk to append. A listed word comes as its three bytes; the serial number beside it is used only
 // after ALT, SLV and MAS.
+#[repr(C)]
 pub struct Description {
     pub subformat: Text256,
     pub generic: [u8; 3],

@@ -47,6 +47,7 @@ use Rattle.metafile.specs.Append.{noRow}
 use Rattle.metafile.specs.Calls.{read}
 use Rattle.read.specs.State.{readOutcome}
 use Rattle.metafile.specs.declared.Row.{Row}
+use Rattle.listing_text.specs.Text.{tableRows}
 use Rattle.listing_text.specs.declared.rows.Table.{Table}
 use Rattle.metafile.specs.declared.ReadAnswer.{ReadAnswer}
 use Rattle.listing_text.proofs.LendArray.{lends-array, array-back}
@@ -78,10 +79,10 @@ stayed = (stay-none-slice (0 ∷ []) tt (plain (λ _. u8)) yes, tt)
 
 -- the array's type, and its type and ReadAnswer's as `code.function` has them
 abbrev Rows : RattleType
-Rows = Array T.the-row 76
+Rows = Array T.the-row tableRows
 
 abbrev rows-ty : Ty
-rows-ty = spell code.Mir.table (tyArray (pointee (T.the-row .written)) 76)
+rows-ty = spell code.Mir.table (tyArray (pointee (T.the-row .written)) tableRows)
 
 abbrev F-ty : Ty
 F-ty = spell code.Mir.table (pointee (F.the-row .written))
@@ -93,7 +94,7 @@ rows-vals l = array-vals (LL.vals T.the-type T′.the-laws) l
 abbrev F-val : ReadAnswer → Val
 F-val g = LL.val F.the-type F′.the-laws g
 
-room : Room T.the-row 76
+room : Room T.the-row tableRows
 room = (lit< tt, lit< tt)
 
 module _ {M : Type 1} (𝓤 : URA M) (H : Heap 𝓤) (A : Atoms 𝓤) (mem : Memory → SProp 𝓤) (run : Routine → Fun 𝓤) where
@@ -120,7 +121,7 @@ module _ {M : Type 1} (𝓤 : URA M) (H : Heap 𝓤) (A : Atoms 𝓤) (W : Given
   abbrev Post : Val → SProp 𝓤
   Post = walkOf 𝓤 H A read-table.ended stayed (read-table.clauses 𝓤 H A mem run) .post (((κ, tt), (q, tt), tt, (f, tt), (vf ∷ [], tt)), tt)
 
-  exits : (h : Table) (v : Val) → readOutcome (h .answer) (h .rows) ≡ read fs (replicate 76 noRow)
+  exits : (h : Table) (v : Val) → readOutcome (h .answer) (h .rows) ≡ read fs (replicate tableRows noRow)
       → ent 𝓤 (⋆ 𝓤 H A (‵ (B.the-row .own h (v ∷ [])) ∷ ‵ (flft κ q) ∷ ‵ Own ∷ [])) (Post v)
   exits h v e =
       qed W (‵ (B.the-row .own h (v ∷ [])) ∷ ‵ (flft κ q) ∷ ‵ Own ∷ []) ∵
@@ -135,7 +136,7 @@ module _ {M : Type 1} (𝓤 : URA M) (H : Heap 𝓤) (A : Atoms 𝓤) (W : Given
   x b γ l = record { ptr = (b, 0); name = γ; now = l }
 
   abbrev to-read : ℕ → ℕ → GName → List Row → Read 𝓤 H A mem run .Ghost
-  to-read ν b γ l = (((κ, (ν ∷ [], tt)), (q, (fullShare, tt)), tt, (f, (x b γ l, tt)), (vf ∷ [], (sliceVal (b, 0) 76 ∷ [], tt))), tt)
+  to-read ν b γ l = (((κ, (ν ∷ [], tt)), (q, (fullShare, tt)), tt, (f, (x b γ l, tt)), (vf ∷ [], (sliceVal (b, 0) tableRows ∷ [], tt))), tt)
 
   abbrev to-joined : List Row → ReadAnswer → Joined 𝓤 H A mem run .Ghost
   to-joined l g = ((tt, tt, tt, (l, (g, tt)), (rows-vals l, (F-val g ∷ [], tt))), tt)
@@ -143,9 +144,9 @@ module _ {M : Type 1} (𝓤 : URA M) (H : Heap 𝓤) (A : Atoms 𝓤) (W : Given
   asks-no-rows : ent 𝓤 (emp 𝓤) (NoRows 𝓤 H A mem run .pre to-no-rows)
   asks-no-rows = qed W [] ∵ nothing ! $ nothing ! $ nothing ! $ join ! $ join ! $ split ! $ frame ! $ done !
 
-  asks-read : (ν b : ℕ) (γ : GName) (l : List Row) → ent 𝓤 (sep 𝓤 (sep 𝓤 (A .lft κ q) (sep 𝓤 (A .lft (ν ∷ []) fullShare) (sem 𝓤 H A ftrue))) (sep 𝓤 (sem 𝓤 H A Own) (sem 𝓤 H A (MutSlice (named 1) (ν ∷ []) T.the-row .own (x b γ l) (sliceVal (b, 0) 76 ∷ []))))) (Read 𝓤 H A mem run .pre (to-read ν b γ l))
+  asks-read : (ν b : ℕ) (γ : GName) (l : List Row) → ent 𝓤 (sep 𝓤 (sep 𝓤 (A .lft κ q) (sep 𝓤 (A .lft (ν ∷ []) fullShare) (sem 𝓤 H A ftrue))) (sep 𝓤 (sem 𝓤 H A Own) (sem 𝓤 H A (MutSlice (named 1) (ν ∷ []) T.the-row .own (x b γ l) (sliceVal (b, 0) tableRows ∷ []))))) (Read 𝓤 H A mem run .pre (to-read ν b γ l))
   asks-read ν b γ l =
-      qed W ((‵ (flft κ q) ⊛ (‵ (flft (ν ∷ []) fullShare) ⊛ ‵ ftrue)) ∷ ‵ Own ∷ ‵ (MutSlice (named 1) (ν ∷ []) T.the-row .own (x b γ l) (sliceVal (b, 0) 76 ∷ [])) ∷ []) ∵
+      qed W ((‵ (flft κ q) ⊛ (‵ (flft (ν ∷ []) fullShare) ⊛ ‵ ftrue)) ∷ ‵ Own ∷ ‵ (MutSlice (named 1) (ν ∷ []) T.the-row .own (x b γ l) (sliceVal (b, 0) tableRows ∷ [])) ∷ []) ∵
       nothing ! $ move ! (3 ∷ 0 ∷ []) $ fjoin ! $ move ! (2 ∷ 0 ∷ []) $ fjoin ! $ move ! (1 ∷ 0 ∷ []) $ join ! $ frame ! $ done !
 
   asks-joined : (l : List Row) (g : ReadAnswer) → Is F.the-row g (F-val g ∷ []) → ent 𝓤 (sem 𝓤 H A (Rows .own l (rows-vals l))) (Joined 𝓤 H A mem run .pre (to-joined l g))
@@ -156,12 +157,12 @@ module _ {M : Type 1} (𝓤 : URA M) (H : Heap 𝓤) (A : Atoms 𝓤) (W : Given
   says-joined : (l : List Row) (g : ReadAnswer) (h : Table) → ent 𝓤 (ensured 𝓤 H A joined.ended (joined.clauses 𝓤 H A mem run) tt (l, (g, tt)) tt h) (fact 𝓤 ((h .rows ≡ l) × (h .answer ≡ g)))
   says-joined l g h = exE 𝓤 _ (λ ws. snd∗ 𝓤 (sem 𝓤 H A (lasts joined.ended tt (l, (g, tt)) ws)) (fact 𝓤 ((h .rows ≡ l) × (h .answer ≡ g))))
 
-  says-no-rows : (r : List Row) → ent 𝓤 (ensured 𝓤 H A no-rows.ended (no-rows.clauses 𝓤 H A mem run) tt tt tt r) (fact 𝓤 (r ≡ replicate 76 noRow))
-  says-no-rows r = exE 𝓤 _ (λ ws. snd∗ 𝓤 (sem 𝓤 H A (lasts no-rows.ended tt tt ws)) (fact 𝓤 (r ≡ replicate 76 noRow)))
+  says-no-rows : (r : List Row) → ent 𝓤 (ensured 𝓤 H A no-rows.ended (no-rows.clauses 𝓤 H A mem run) tt tt tt r) (fact 𝓤 (r ≡ replicate tableRows noRow))
+  says-no-rows r = exE 𝓤 _ (λ ws. snd∗ 𝓤 (sem 𝓤 H A (lasts no-rows.ended tt tt ws)) (fact 𝓤 (r ≡ replicate tableRows noRow)))
 
   module _ (C : Calls 𝓤 H) (Λ : Loops 𝓤 H) (fm : FmC 𝓤 H (W .laws) C) (no-rows-known : Triple 𝓤 (C #no-rows) (NoRows 𝓤 H A mem run)) (read-known : Triple 𝓤 (C #read·read) (Read 𝓤 H A mem run)) (joined-known : Triple 𝓤 (C #joined) (Joined 𝓤 H A mem run)) where
     typed : (l : List Row) (v : Val) → Is Rows l (v ∷ []) → Holds (hasTy rows-ty v) × WT v
-    typed l v is = array-lawful 𝓤 H A W T.the-row (LL.lawful T.the-type T′.the-laws 𝓤 H A W) 76 .typed l (v ∷ []) is .0
+    typed l v is = array-lawful 𝓤 H A W T.the-row (LL.lawful T.the-type T′.the-laws 𝓤 H A W) tableRows .typed l (v ∷ []) is .0
 
     walk : ent 𝓤 (onEntry 𝓤 H A read-table.signature (κ, tt) (q, tt) (f, tt) (vf ∷ [], tt)) (WpFn 𝓤 H C Λ code.function (vf ∷ []) Post)
     walk =
@@ -171,14 +172,14 @@ module _ {M : Type 1} (𝓤 : URA M) (H : Heap 𝓤) (A : Atoms 𝓤) (W : Given
         -- [the token; what the file owns; _6; …; _5; …; _4; …; _3; …; _2; …; _1; …; room for _0; …]: no_rows()
         use0 W (raw (NoRows 𝓤 H A mem run .pre to-no-rows)) asks-no-rows $ calls-at ! fm (NoRows 𝓤 H A mem run) no-rows-known to-no-rows (no-more !) (λ w.
         use1 W (later (some (λ (r : List Row). (‵ ftrue ⊛ ‵ (Rows .own r (w ∷ []))) ⊛ raw (ensured 𝓤 H A no-rows.ended (no-rows.clauses 𝓤 H A mem run) tt tt tt r)))) (id⊢ 𝓤 _) $ await ! tt $ pick ! (λ r.
-        split ! $ move ! (1 ∷ []) $ use1 W (raw (fact 𝓤 (r ≡ replicate 76 noRow))) (says-no-rows r) $ heard ! (r ≡ replicate 76 noRow) (λ e. split ! $ drop ! $ peeks ! Rows (Is Rows) (shows 𝓤 H A Rows) r (w ∷ []) (λ is.
+        split ! $ move ! (1 ∷ []) $ use1 W (raw (fact 𝓤 (r ≡ replicate tableRows noRow))) (says-no-rows r) $ heard ! (r ≡ replicate tableRows noRow) (λ e. split ! $ drop ! $ peeks ! Rows (Is Rows) (shows 𝓤 H A Rows) r (w ∷ []) (λ is.
         land ! (from ! (stop !)) (init ! 7 refl (typed r w is)) $
         assigns ! (of-opd ! (load ! (from ! (stop !)) (look ! 7 refl))) (from ! (stop !)) (init ! 11 refl (typed r w is)) $
         assigns ! (addr ! (from ! (stop !))) (from ! (stop !)) (init ! 5 refl (tt, tt)) $
         assigns ! (agg ! (and-then ! (load ! (from ! (stop !)) (look ! 5 refl)) (and-then ! (lit ! tt) (no-more !)))) (from ! (stop !)) (init ! 3 refl (tt, (tt, (record { fits = lit< tt }, tt)))) $
         -- the array is lent for a lifetime ν of the call
         move ! (11 ∷ []) $ use1 W (‵ (cellAt fullShare (Rows .mir) (w ∷ []) l₂ 0)) (W .laws .at-raw fullShare rows-ty l₂ 0 w) $ lft-new ! tt (λ ν. move ! (1 ∷ 2 ∷ []) $
-        use2 W (later (some (λ (γ : GName). ‵ (MutSlice (named 1) (ν ∷ []) T.the-row .own (x l₂ γ r) (sliceVal (l₂, 0) 76 ∷ [])) ⊛ ‵ (flent (ν ∷ []) (Held T.the-row 76 l₂ 0 γ))))) (lends-array 𝓤 H A W T.the-row 76 (ν ∷ []) l₂ 0 (named 1) tt room r w) $ await ! tt $ pick ! (λ γ. split ! $
+        use2 W (later (some (λ (γ : GName). ‵ (MutSlice (named 1) (ν ∷ []) T.the-row .own (x l₂ γ r) (sliceVal (l₂, 0) tableRows ∷ [])) ⊛ ‵ (flent (ν ∷ []) (Held T.the-row tableRows l₂ 0 γ))))) (lends-array 𝓤 H A W T.the-row tableRows (ν ∷ []) l₂ 0 (named 1) tt room r w) $ await ! tt $ pick ! (λ γ. split ! $
         -- [the slice; the lender's part; ν's token; the token; what the file owns; _6; …; _5; …; _4; …; _3; …; that _2 dies; _1; …; room for _0; …]: read(file, &mut rows)
         move ! (4 ∷ []) $ use1 W (‵ Own ⊛ ‵ Own) (shr-slice-copy 𝓤 H A W (named 0) κ u8 .twice f (vf ∷ [])) $ split ! $ nothing ! $ move ! (5 ∷ 0 ∷ []) $ join ! $ move ! (5 ∷ 0 ∷ []) $ join ! $ move ! (0 ∷ 1 ∷ 3 ∷ []) $
         use3 W (raw (Read 𝓤 H A mem run .pre (to-read ν l₂ γ r))) (asks-read ν l₂ γ r) $
@@ -194,7 +195,7 @@ module _ {M : Type 1} (𝓤 : URA M) (H : Heap 𝓤) (A : Atoms 𝓤) (W : Given
         -- the lifetime is ended, and the array is back
         drop ! $ split ! $ move ! (1 ∷ []) $ split ! $ lft-end ! tt $ move ! (0 ∷ 5 ∷ 3 ∷ []) $
         use3 W (later (‵ (cellAt fullShare (Rows .mir) (rows-vals (zs .1 .0)) l₂ 0) ⊛ ‵ (Rows .own (zs .1 .0) (rows-vals (zs .1 .0)))))
-        (array-back 𝓤 H A W T.the-row 76 (ν ∷ []) l₂ 0 rows-vals (array-tells T.the-row (LL.vals T.the-type T′.the-laws) (LL.tells T.the-type T′.the-laws) 76) γ (zs .1 .0)) $ await ! tt $ split ! $
+        (array-back 𝓤 H A W T.the-row tableRows (ν ∷ []) l₂ 0 rows-vals (array-tells T.the-row (LL.vals T.the-type T′.the-laws) (LL.tells T.the-type T′.the-laws) tableRows) γ (zs .1 .0)) $ await ! tt $ split ! $
         use1 W (‵ (fat fullShare rows-ty l₂ 0 (only (rows-vals (zs .1 .0))))) (W .laws .raw-at fullShare rows-ty l₂ 0 (only (rows-vals (zs .1 .0)))) $ move ! (1 ∷ []) $
         peeks ! Rows (Is Rows) (shows 𝓤 H A Rows) (zs .1 .0) (rows-vals (zs .1 .0)) (λ zis.
         -- [what the array owns; _2; true; the token; what the file owns; _6; …; _5; …; _4; …; _3; …; that _2 dies; _1; …; room for _0; …]: joined(rows, answer)

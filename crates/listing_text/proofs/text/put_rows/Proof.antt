@@ -5,7 +5,7 @@ use native.Mathlib.Omega.{arith}
 use borrow.Author.Needs.{needs}
 use lib.ListN.{length, take}
 use Rattle.metafile.specs.Listing.{rowLines}
-use Rattle.listing_text.specs.Text.{Put}
+use Rattle.listing_text.specs.Text.{tableRows, Put}
 use Rattle.listing_text.proofs.Texts.{put-none, put-behind, put-is, put-length, rows-none, rows-more}
 use Rattle.listing_text.proofs.text.put_rows.Statement.{statement}
 use Rattle.listing_text.proofs.text.put_rows.Tie as tie
@@ -16,8 +16,8 @@ Inv-loop buffer₀ at count rows p₀ i₀ buffer p i = Put (rowLines 0 (take i 
 abbrev μ-loop : tie.MeasureT-loop
 μ-loop buffer₀ at count rows p₀ i₀ buffer p i = count - i
 
-rows-long : (s : tie.Start Inv-loop μ-loop) (i : ℕ) → i < 76 → i < length (s .args .t3)
-rows-long s i h = let long : length (s .args .t3) ≡ 76 = search needs in omega arith
+rows-long : (s : tie.Start Inv-loop μ-loop) (i : ℕ) → i < tableRows → i < length (s .args .t3)
+rows-long s i h = let long : length (s .args .t3) ≡ tableRows = search needs in omega arith
 
 loop-holds : tie.Need-loop-holds Inv-loop μ-loop
 loop-holds c = (put-is (sym (rows-none (c .before .args .t3))) (put-none (c .before .args .at) (c .before .args .buffer .now) (omega arith)), omega arith, omega arith)
