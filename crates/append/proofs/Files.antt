@@ -1,42 +1,39 @@
 -- The old file as the calls below give it: its header, its mark as a part of the file, its rows.
 --     number-is parts mark-..   a header without a fault; the mark lies inside the file, has at most 999 bytes, and is copied
---     place-is layout-.. row-..   a row: its place, its chunk, its serial number and sub-format
---     parent-is   "Each parent's serial and sub-format are copied from its chunk": the two, one behind the other
+--     name-.. serial-..   where the sub-format and the serial number of a row stand in the file
+--     values-put   "Each parent's serial and sub-format are copied from its chunk": the two, one behind the other
 -- Assumes nothing.
 use Prim.Native.Nat.{ℕ, _+_, _-_, _≤_, _<_}
-use mathlib.Core.Bool.{true}
 use mathlib.Core.Path.{_≡_, refl, sym, ap, _∙_}
 use mathlib.Core.List.{List, [], _∷_, _++_, append-assoc}
 use native.Mathlib.Omega.{arith}
 use lib.ListN.{length, take, drop, length-drop, take-append-drop}
 use lib.Seq.{drop-drop, length-take-le}
 use lib.Dec.{leb}
-use borrow.Author.Tests.{lt-ltb, leb-true}
+use borrow.Author.Tests.{leb-true}
 use Rattle.metafile.specs.declared.Row.{Row}
 use Rattle.metafile.specs.Bytes.{part, isZero}
 use Rattle.metafile.specs.Fields.{isCount, countValue}
 use Rattle.metafile.specs.Lines.{fixed, value, strategy, lf, linesOf, run, kindFault, fault, countFault, formatID, separatorStrategy}
 use Rattle.metafile.specs.Header.{isLLC, markOf, headerFault, markLength, title, titleFault}
-use Rattle.metafile.specs.Chunk.{chunkFault, serialOf, subFormat, rowAt}
+use Rattle.metafile.specs.Chunk.{subFormat, rowAt}
 use Rattle.metafile.specs.Reading.{rowsOf}
-use Rattle.metafile.specs.Append.{rowNo, subFormatOf, parentValues}
+use Rattle.metafile.specs.Append.{rowNo, subFormatOf}
 use Rattle.metafile.specs.Answers.{placed}
-use Rattle.laws.proofs.First.{choose-go, ⊳-left, ⊳-right, and-both, require-true, isZero-zero}
+use Rattle.laws.proofs.First.{⊳-left, ⊳-right, and-both, require-true, isZero-zero}
 use Rattle.laws.proofs.Lists.{part-local}
 use Rattle.laws.proofs.Table.{field-own, run-at}
 use Rattle.laws.proofs.Distances.{lines}
-use Rattle.chunk_laws.proofs.Chunk.{unfaulted}
 use Rattle.chunk_laws.proofs.File.{header-whole, length-mark, fits-title}
-use Rattle.chunk_laws.proofs.Places.{row-placed, row-inside, serial-taken, subFormat-taken}
-use Rattle.chunk.specs.declared.parts.Layout.{Layout}
-use Rattle.chunk.specs.Layout.{partsOf, layoutOf}
+use Rattle.chunk_laws.proofs.Places.{Placed, row-placed, row-inside, serial-taken, subFormat-taken}
 use Rattle.walk.proofs.Stages.{mark-part, mark-inside, header-number, HeaderIs, header-is}
 use Rattle.walk.specs.declared.answers.Header.{Header}
-use Rattle.walk.specs.declared.answers.Found.{Found}
-use Rattle.walk.specs.Walk.{headerOf, chunkAt, foundAt}
-use Rattle.begin.proofs.Values.{placed-start}
-use Rattle.append.specs.Values.{joined}
-use Rattle.append.proofs.Joined.{spaces, put-next}
+use Rattle.walk.proofs.Index.{serial-place-is, serial-place-some, serial-place-inside}
+use Rattle.walk.specs.Walk.{headerOf}
+use Rattle.walk.specs.Index.{serialPlace}
+use Rattle.begin.proofs.Values.{placed-start, spaces}
+use Rattle.append.specs.Values.{joined, valuesAt}
+use Rattle.append.proofs.Joined.{put-next}
 
 -- ---- the header
 
@@ -94,58 +91,59 @@ mark-copied file n b b' h e =
 -- ---- a row
 
 module _ (file : List ℕ) (k : ℕ) (inside : k < length (rowsOf file)) where
-  abbrev pub rowPlace : ℕ
-  rowPlace = rowNo (rowsOf file) k .place
+  abbrev pub row : Row
+  row = rowNo (rowsOf file) k
 
-  row-found : foundAt file k ≡ record { there = true; place = rowPlace; layout = chunkAt file rowPlace }
-  unfolding foundAt
-  row-found = rw (lt-ltb k (length (rowsOf file)) inside)
+  here : Placed (isLLC file) (markOf file) file row
+  here = row-placed file k inside
 
-  pub place-is : (r : Found) → r ≡ foundAt file k → r .place ≡ rowPlace
-  place-is r e = ap (λ (x : Found). x .place) (e ∙ row-found)
+  -- its sub-format stands 46 bytes behind its place
+  pub name-inside : row .place + 46 + 256 ≤ length file
+  name-inside = omega (arith, row-inside file k inside .dependencies-inside)
 
-  pub place-inside : (r : Found) → r ≡ foundAt file k → r .place + 568 ≤ length file
-  place-inside r e = omega (arith, place-is r e, row-inside file k inside .dependencies-inside)
-
-  -- its chunk, which is whole
-  pub layout-is : (r : Found) → r ≡ foundAt file k → r .layout ≡ chunkAt file (r .place)
-  layout-is r e = ap (λ (x : Found). x .layout) (e ∙ row-found) ∙ ap (chunkAt file) (sym (place-is r e))
-
-  pub layout-whole : (r : Found) → r ≡ foundAt file k → r .layout .number ≡ 0
-  unfolding chunkAt layoutOf partsOf
-  layout-whole r e =
-      ap (λ (x : Layout). x .number)
-      (ap (λ (x : Found). x .layout) (e ∙ row-found)
-      ∙ choose-go (chunkFault (isLLC file) (markOf file) (drop rowPlace file)) _ _ (unfaulted (isLLC file) (markOf file) (drop rowPlace file) (row-placed file k inside .chunk)))
-
-  pub row-serial : (r : Found) → r ≡ foundAt file k → serialOf (markOf file) (drop (r .place) file) ≡ rowNo (rowsOf file) k .serial
-  unfolding rowAt
-  row-serial r e =
-      ap (λ (p : ℕ). serialOf (markOf file) (drop p file)) (place-is r e) ∙ sym (ap (λ (x : Row). x .serial) (row-placed file k inside .row))
-
-  -- its sub-format, as a part of the file
-  pub row-name : (r : Found) → r ≡ foundAt file k → take (r .place + 302 - (r .place + 46)) (drop (r .place + 46) file) ≡ subFormatOf file (rowNo (rowsOf file) k)
+  pub name-part : part (row .place + 46) 256 file ≡ subFormatOf file row
   unfolding subFormatOf subFormat
-  row-name r e =
-      let long : r .place + 302 - (r .place + 46) ≡ 256 = omega arith in
-      rw (long, ← drop-drop 46 (r .place) file, place-is r e)
+  name-part = rw (← drop-drop 46 (row .place) file)
 
-  pub serial-long : length (rowNo (rowsOf file) k .serial) ≡ 38
+  pub name-long : length (subFormatOf file row) ≡ 256
+  unfolding subFormatOf
+  name-long = subFormat-taken (isLLC file) (markOf file) (drop (row .place) file) (here .chunk) .0
+
+  -- its serial number stands in its closing
+  pub serial-inside : (length (markOf file) + 234 ≤ row .end) × (row .end - (length (markOf file) + 234) + 38 ≤ length file)
+  unfolding serialPlace
+  serial-inside = (
+    omega (arith, serial-place-some (isLLC file) (markOf file) file row here),
+    serial-place-inside (isLLC file) (markOf file) file row here,
+  )
+
+  pub serial-part : part (row .end - (length (markOf file) + 234)) 38 file ≡ row .serial
+  unfolding serialPlace
+  serial-part = sym (serial-place-is (isLLC file) (markOf file) file row here)
+
+  pub serial-long : length (row .serial) ≡ 38
   unfolding rowAt
   serial-long =
-      ap length (ap (λ (x : Row). x .serial) (row-placed file k inside .row))
-      ∙ serial-taken (isLLC file) (markOf file) (drop rowPlace file) (row-placed file k inside .chunk) .0
+      ap length (ap (λ (x : Row). x .serial) (here .row))
+      ∙ serial-taken (isLLC file) (markOf file) (drop (row .place) file) (here .chunk) .0
 
-  pub name-long : length (subFormatOf file (rowNo (rowsOf file) k)) ≡ 256
-  unfolding subFormatOf
-  name-long = subFormat-taken (isLLC file) (markOf file) (drop rowPlace file) (row-placed file k inside .chunk) .0
+-- ---- a parent's two values
 
-  -- the two put one behind the other
-  pub parent-is : (v w b₁ b₂ : List ℕ) → v ≡ rowNo (rowsOf file) k .serial → w ≡ subFormatOf file (rowNo (rowsOf file) k)
-      → b₁ ≡ placed 0 v (spaces 294) → b₂ ≡ placed 38 w b₁ → b₂ ≡ joined (parentValues file (rowsOf file) (k ∷ []))
-  unfolding joined parentValues
-  parent-is v w b₁ b₂ ev ew e₁ e₂ =
-      let lv : length v ≡ 38 = rw ev serial-long in
-      let lw : length w ≡ 256 = rw ew name-long in
-      put-next 38 256 0 v w b₁ b₂ lv lw (put-next 0 38 256 [] v (spaces 294) b₁ refl lv refl e₁) e₂
-      ∙ rw (ev, ew) (simp append-assoc)
+module _ (file : List ℕ) (serial name : ℕ) (s : serial + 38 ≤ length file) (n : name + 256 ≤ length file) where
+  pub serial-wide : length (part serial 38 file) ≡ 38
+  serial-wide = length-take-le 38 (drop serial file) (simp length-drop (omega arith))
+
+  pub name-wide : length (part name 256 file) ≡ 256
+  name-wide = length-take-le 256 (drop name file) (simp length-drop (omega arith))
+
+  -- put one behind the other
+  pub values-put : (b₁ b₂ : List ℕ) → b₁ ≡ placed 0 (take (serial + 38 - serial) (drop serial file)) (spaces 294) → b₂ ≡ placed 38 (take (name + 256 - name) (drop name file)) b₁
+      → b₂ ≡ joined (valuesAt file serial name)
+  unfolding joined valuesAt
+  values-put b₁ b₂ e₁ e₂ =
+      let v : List ℕ = part serial 38 file in
+      let w : List ℕ = part name 256 file in
+      let is-v : serial + 38 - serial ≡ 38 = omega arith in
+      let is-w : name + 256 - name ≡ 256 = omega arith in
+      put-next 38 256 0 v w b₁ b₂ serial-wide name-wide (put-next 0 38 256 [] v (spaces 294) b₁ refl serial-wide refl (rw is-v at e₁)) (rw is-w at e₂)
+      ∙ simp append-assoc

@@ -1,31 +1,23 @@
 -- Tests held against the file: 12, 13, 9, 15 and 16, and the lengths of 11.
 --     over-six      11
 --     clean-is      12
---     count-is known-row   the number of rows; a serial number in a row
 --     refused-13 refused-9 refused-15 held   the three in their order
 --     closed-right open-is   16
 -- Assumes nothing.
-use Prim.Native.Nat.{ℕ, zero, suc, _+_, _-_, _≤_, _<_}
+use Prim.Native.Nat.{ℕ, zero, suc}
 use mathlib.Core.Bool.{Bool, true, false, not, _&&_, _||_}
 use mathlib.Core.Path.{_≡_, refl, sym, ap, _∙_}
 use mathlib.Core.List.{List, [], _∷_, _++_}
 use native.Mathlib.Omega.{arith}
 use lib.Dec.{ltb, eqb}
 use lib.ListN.{length}
-use borrow.Author.Tests.{lt-ltb, le-ltb, ltb-true, ltb-false, ne-eqb}
-use Rattle.metafile.specs.declared.Row.{Row}
+use borrow.Author.Tests.{ne-eqb}
 use Rattle.metafile.specs.Bytes.{part, isZero, all, nonZero, same, find}
-use Rattle.metafile.specs.Fields.{sameSerial, known}
 use Rattle.metafile.specs.Header.{isLLC, markOf}
-use Rattle.metafile.specs.Reading.{reading, rowsOf, serialsOf, isClean}
+use Rattle.metafile.specs.Reading.{reading, isClean}
 use Rattle.metafile.specs.Answers.{firstRefusal, limit, overLimit}
-use Rattle.metafile.specs.Append.{parentsWrong}
-use Rattle.metafile.specs.Calls.{rowWith}
-use Rattle.laws.proofs.First.{test}
 use Rattle.laws.proofs.Accepted.{refusal-first, refusal-next}
 use Rattle.lines.specs.Words.{wordNo}
-use Rattle.walk.specs.declared.answers.Walk.{Walk}
-use Rattle.walk.specs.Walk.{walkOf}
 use Rattle.begin.proofs.Values.{part-whole}
 use Rattle.append.specs.Tests.{fileTests, parentsRefused, openRefused}
 use Rattle.append.proofs.Described.{refused-none}
@@ -55,74 +47,30 @@ unfolding isZero
 zero-is zero = refl
 zero-is (suc n) = ne-eqb (suc n) 0 (λ e. omega arith)
 
-pub clean-is : (file : List ℕ) (w : Walk) → w ≡ walkOf file → (eqb (w .number) 0 && eqb (w .stop) (length file)) ≡ isClean file (reading file)
-unfolding isClean walkOf
-clean-is file w e =
-    let number : w .number ≡ reading file .number = ap (λ (x : Walk). x .number) e in
-    let stop : w .stop ≡ reading file .stop = ap (λ (x : Walk). x .stop) e in
-    ap (λ (b : Bool). b && eqb (w .stop) (length file)) (zero-is (w .number) ∙ ap isZero number)
-    ∙ ap (λ (n : ℕ). isZero (reading file .number) && eqb n (length file)) stop
+pub clean-is : (file : List ℕ) (number stop : ℕ) → number ≡ reading file .number → stop ≡ reading file .stop → (eqb number 0 && eqb stop (length file)) ≡ isClean file (reading file)
+unfolding isClean
+clean-is file number stop n e = rw (zero-is number, n, e)
 
 -- ---- 13, 9, 15
 
-pub count-is : (file : List ℕ) (w : Walk) → w ≡ walkOf file → w .count ≡ length (rowsOf file)
-unfolding walkOf
-count-is file w e = ap (λ (x : Walk). x .count) e
-
--- a serial number is in a row where the row with it is one of them
-pub known-row : (x : List ℕ) (rows : List Row) → known x (serialsOf rows) ≡ ltb (rowWith x rows) (length rows)
-unfolding known serialsOf rowWith
-known-row x [] = sym (le-ltb 0 0 (omega arith))
-known-row x (r ∷ rows) =
-    test (sameSerial x (r .serial))
-    (λ q. rw q (sym (lt-ltb 0 (suc (length rows)) (omega arith))))
-    (λ q. rw q (known-row x rows ∙ same-order (rowWith x rows) (length rows)))
-  where
-    same-order : (a b : ℕ) → ltb a b ≡ ltb (suc a) (suc b)
-    same-order a b =
-        test (ltb a b)
-        (λ q. let h = ltb-true a b q in q ∙ sym (lt-ltb (suc a) (suc b) (omega arith)))
-        (λ q. let h = ltb-false a b q in q ∙ sym (le-ltb (suc a) (suc b) (omega arith)))
-
-module _ (file parents serial : List ℕ) (w : Walk) (is : w ≡ walkOf file) where
-  -- 13 by the number of rows
-  wrong-is : parentsWrong (rowsOf file) parents ≡ parentsRefused (w .count) parents
-  unfolding parentsWrong parentsRefused
-  wrong-is = ap (λ (n : ℕ). parentsRefused n parents) (sym (count-is file w is))
-
-  -- 9 by the row with the serial number
-  known-is : (n : ℕ) → n ≡ rowWith serial (rowsOf file) → known serial (serialsOf (rowsOf file)) ≡ ltb n (w .count)
-  known-is n e =
-      known-row serial (rowsOf file)
-      ∙ ap (λ (k : ℕ). ltb k (length (rowsOf file))) (sym e)
-      ∙ ap (ltb n) (sym (count-is file w is))
-
-  pub refused-13 : parentsRefused (w .count) parents ≡ true → 13 ≡ firstRefusal (fileTests file parents serial)
+module _ (file : List ℕ) (n : ℕ) (isKnown : Bool) (parents : List ℕ) where
+  pub refused-13 : parentsRefused n parents ≡ true → 13 ≡ firstRefusal (fileTests file n isKnown parents)
   unfolding fileTests
-  refused-13 e = sym (refusal-first 13 _ _ (wrong-is ∙ e))
+  refused-13 e = sym (refusal-first 13 _ _ e)
 
-  module _ (p : parentsRefused (w .count) parents ≡ false) (n : ℕ) (with : n ≡ rowWith serial (rowsOf file)) where
-    pub refused-9 : n < w .count → 9 ≡ firstRefusal (fileTests file parents serial)
+  module _ (p : parentsRefused n parents ≡ false) where
+    pub refused-9 : isKnown ≡ true → 9 ≡ firstRefusal (fileTests file n isKnown parents)
     unfolding fileTests
-    refused-9 h = sym (refusal-next 13 _ _ (wrong-is ∙ p) ∙ refusal-first 9 _ _ (known-is n with ∙ lt-ltb n (w .count) h))
+    refused-9 k = sym (refusal-next 13 _ _ p ∙ refusal-first 9 _ _ k)
 
-    module _ (new : w .count ≤ n) where
-      pub refused-15 : all nonZero (markOf file) ≡ false → 15 ≡ firstRefusal (fileTests file parents serial)
+    module _ (new : isKnown ≡ false) where
+      pub refused-15 : all nonZero (markOf file) ≡ false → 15 ≡ firstRefusal (fileTests file n isKnown parents)
       unfolding fileTests
-      refused-15 e =
-          sym
-          (refusal-next 13 _ _ (wrong-is ∙ p)
-          ∙ refusal-next 9 _ _ (known-is n with ∙ le-ltb n (w .count) new)
-          ∙ refusal-first 15 (not (all nonZero (markOf file))) [] (rw e))
+      refused-15 e = sym (refusal-next 13 _ _ p ∙ refusal-next 9 _ _ new ∙ refusal-first 15 (not (all nonZero (markOf file))) [] (rw e))
 
-      pub held : all nonZero (markOf file) ≡ true → 0 ≡ firstRefusal (fileTests file parents serial)
+      pub held : all nonZero (markOf file) ≡ true → 0 ≡ firstRefusal (fileTests file n isKnown parents)
       unfolding fileTests
-      held e =
-          sym
-          (refusal-next 13 _ _ (wrong-is ∙ p)
-          ∙ refusal-next 9 _ _ (known-is n with ∙ le-ltb n (w .count) new)
-          ∙ refusal-next 15 (not (all nonZero (markOf file))) [] (rw e)
-          ∙ refused-none)
+      held e = sym (refusal-next 13 _ _ p ∙ refusal-next 9 _ _ new ∙ refusal-next 15 (not (all nonZero (markOf file))) [] (rw e) ∙ refused-none)
 
 -- ---- 16
 

@@ -5,13 +5,13 @@
 --     lined-up given-is closing-is head-is count-put   the values of the description's lines, the closing's, the head's
 --     chopped-joined      values that fill their widths, one behind the other, are themselves again
 -- Assumes nothing.
-use Prim.Native.Nat.{ℕ, _+_, _-_, _*_, _≤_}
+use Prim.Native.Nat.{ℕ, _+_, _*_, _≤_}
 use mathlib.Core.Bool.{Bool, true, false, cond, _||_}
 use mathlib.Core.Path.{_≡_, refl, sym, _∙_}
 use mathlib.Core.List.{List, [], _∷_, _++_, append-assoc, append-nil}
 use native.Mathlib.Omega.{arith}
-use lib.ListN.{length, take, drop, replicate, length-append, length-take, length-replicate, replicate-append-replicate}
-use lib.Seq.{take-at, drop-at, drop-append-add}
+use lib.ListN.{length, take, replicate, length-append, length-take}
+use lib.Seq.{take-at, drop-at}
 use Rattle.metafile.specs.declared.Description.{Description}
 use Rattle.metafile.specs.Bytes.{part, same, member}
 use Rattle.metafile.specs.Fields.{digitsOf, padded}
@@ -24,34 +24,20 @@ use Rattle.laws.proofs.Lists.{length-padded}
 use Rattle.laws.proofs.Digits.{length-digitsOf}
 use Rattle.lines.specs.Words.{wordNo}
 use Rattle.lines.specs.Values.{chopped}
-use Rattle.begin.proofs.Values.{part-whole}
+use Rattle.begin.proofs.Values.{part-whole, padded-full, spaces, placed-padded}
 use Rattle.append.specs.Values.{joined, headValuesFor}
 
 -- ---- into spaces
 
-abbrev pub spaces : ℕ → List ℕ
-spaces n = replicate n 32
-
-spaces-split : (n k : ℕ) → spaces (n + k) ≡ spaces n ++ spaces k
-spaces-split n k = sym (replicate-append-replicate {A = ℕ} n k 32)
-
 -- a text put behind what stands, at the beginning of a field of w spaces
 put-padded : (at w n : ℕ) (p v b b' : List ℕ) → length p ≡ at → length v ≤ w → b ≡ p ++ spaces (w + n) → b' ≡ placed at v b → b' ≡ p ++ padded w v ++ spaces n
-unfolding placed padded
-put-padded at w n p v b b' lp lv e q =
-    let sums : w + n ≡ length v + ((w - length v) + n) = omega arith in
-    let behind : drop (at + length v) (p ++ spaces (w + n)) ≡ spaces (w - length v) ++ spaces n =
-    rw (← lp, drop-append-add p (spaces (w + n)) (length v), sums, spaces-split (length v) ((w - length v) + n), drop-at (spaces (length v)) (spaces ((w - length v) + n)) (length v) (length-replicate {A = ℕ} (length v) 32))
-    (spaces-split (w - length v) n) in
-    q ∙ rw (e, take-at p (spaces (w + n)) at lp, behind) (simp append-assoc)
+put-padded at w n p v b b' lp lv e q = q ∙ rw e (placed-padded at w n p v lp lv)
 
 -- a value that fills its width
 pub put-next : (at w n : ℕ) (p v b b' : List ℕ) → length p ≡ at → length v ≡ w → b ≡ p ++ spaces (w + n) → b' ≡ placed at v b → b' ≡ p ++ v ++ spaces n
-unfolding padded
 put-next at w n p v b b' lp lv e q =
-    let none : w - length v ≡ 0 = omega arith in
     let put = put-padded at w n p v b b' lp (omega arith) e q in
-    rw (none, append-nil) at put
+    rw (padded-full w v lv) at put
 
 pub or-none : (a : Bool) → (a || false) ≡ a
 or-none true = refl

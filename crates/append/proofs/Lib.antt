@@ -6,6 +6,7 @@
 --     Held        11, 12, 13, 9, 15, 16: what is held against the file
 --     Refusals    the tests in their order
 --     Written     lines written behind each other, and the lines of parents
+--     Surveyed    what walk's survey says to the tests and to the copies from parents
 --     Chunks      the three writes of an accepted append
 pub mod Joined
 pub mod Files
@@ -14,4 +15,5 @@ pub mod Named
 pub mod Held
 pub mod Refusals
 pub mod Written
+pub mod Surveyed
 pub mod Chunks

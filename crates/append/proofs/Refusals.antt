@@ -3,30 +3,29 @@
 --     is-taken     all but 18 passed: the new chunk's lengths are known, and so where it would end
 -- Assumes nothing.
 use Prim.Native.Nat.{ℕ, _+_, _*_, _^_, _≤_, _<_}
-use mathlib.Core.Bool.{true, false, not, _&&_, _||_}
+use mathlib.Core.Bool.{true, false, not}
 use mathlib.Core.Path.{_≡_, refl, sym, _∙_}
 use mathlib.Core.List.{List, [], _∷_, _++_}
 use native.Mathlib.Omega.{arith}
-use lib.Dec.{ltb, eqb}
+use lib.Dec.{ltb}
 use lib.ListN.{length, take}
 use lib.Seq.{length-take-le}
-use borrow.Author.Tests.{lt-ltb, le-ltb, ltb-false, not-false, eqb-true}
-use Rattle.metafile.specs.Bytes.{all, isZero, nonZero, same}
+use borrow.Author.Tests.{lt-ltb, le-ltb, ltb-false, not-false}
+use Rattle.metafile.specs.Bytes.{all, nonZero, same}
 use Rattle.metafile.specs.Fields.{known}
-use Rattle.metafile.specs.Lines.{linesOf, formed}
-use Rattle.metafile.specs.Closing.{integrityLines, integrityValues}
 use Rattle.metafile.specs.Header.{markOf, headerFault}
-use Rattle.metafile.specs.Chunk.{givenLines, multiName}
+use Rattle.metafile.specs.Chunk.{multiName}
 use Rattle.metafile.specs.Reading.{reading, rowsOf, serialsOf, isClean}
-use Rattle.metafile.specs.Answers.{Test, refuse, firstRefusal, limit, overLimit}
-use Rattle.metafile.specs.Append.{Given, subFormatGiven, givenValues, integrityGiven, overLong, appendFormed, allBelow, repeated, parentsWrong, firstEnd, secondEnd, thirdEnd, openWrong, appendOverLimit, appendTests}
-use Rattle.laws.proofs.First.{test, or-false, and-both, isZero-zero}
+use Rattle.metafile.specs.Answers.{Test, refuse, firstRefusal, overLimit}
+use Rattle.metafile.specs.Append.{Given, subFormatGiven, appendFormed, parentsWrong, firstEnd, secondEnd, thirdEnd, openWrong, appendOverLimit, appendTests}
+use Rattle.laws.proofs.First.{test, or-false}
 use Rattle.laws.proofs.Accepted.{refusal-first, refusal-next, refusal-none}
 use Rattle.chunk_laws.proofs.File.{clean-begun}
-use Rattle.demand.proofs.Taken.{Taken}
+use Rattle.demand.proofs.Taken.{Taken, within, clean-parts, formed-parts, parents-parts}
 use Rattle.demand.proofs.Stretches.{length-first, length-third}
-use Rattle.append.specs.Tests.{descriptionTests, fileTests, openRefused}
+use Rattle.append.specs.Tests.{descriptionTests, parentsRefused, fileTests, openRefused}
 use Rattle.append.proofs.Described.{refused-none}
+use Rattle.append.proofs.Surveyed.{testsOf}
 
 -- a group of tests that refuses decides
 refused-group : (ts us : List Test) → (firstRefusal ts ≡ 0 → ⊥) → firstRefusal (ts ++ us) ≡ firstRefusal ts
@@ -37,35 +36,9 @@ refused-group (t ∷ ts) us n =
 
 -- ---- what a test that does not refuse says
 
-within : (n : ℕ) (ns : List ℕ) → overLimit (n ∷ ns) ≡ false → (n ≤ 2 ^ 30) × (overLimit ns ≡ false)
-unfolding overLimit limit
-within n ns e =
-    let h = or-false (ltb (2 ^ 30) n) (overLimit ns) e in
-    (ltb-false (2 ^ 30) n (h .0), h .1)
-
-clean-parts : (file : List ℕ) → isClean file (reading file) ≡ true → (reading file .number ≡ 0) × (reading file .stop ≡ length file)
-unfolding isClean
-clean-parts file e =
-    let h = and-both (isZero (reading file .number)) (eqb (reading file .stop) (length file)) e in
-    (isZero-zero _ (h .0), eqb-true _ _ (h .1))
-
 pub clean-header : (file : List ℕ) → isClean file (reading file) ≡ true → headerFault file ≡ 0
 unfolding reading
 clean-header file e = clean-begun (length file) file (clean-parts file e .0)
-
-formed-parts : (g : Given) → appendFormed (g .description) ≡ true
-    → (formed (linesOf givenLines) (givenValues (g .description)) ≡ true)
-    × (formed (linesOf integrityLines) (integrityValues (integrityGiven (g .description))) ≡ true)
-unfolding appendFormed
-formed-parts g e =
-    let h = and-both (not (overLong (g .description)) && formed (linesOf givenLines) (givenValues (g .description))) _ e in
-    (and-both (not (overLong (g .description))) _ (h .0) .1, h .1)
-
-named-parts : (file ks : List ℕ) → parentsWrong (rowsOf file) ks ≡ false → (allBelow (length (rowsOf file)) ks ≡ true) × (length ks ≤ 16)
-unfolding parentsWrong
-named-parts file ks e =
-    let h = or-false (not (allBelow (length (rowsOf file)) ks) || repeated ks) (ltb 16 (length ks)) e in
-    (not-false _ (or-false (not (allBelow (length (rowsOf file)) ks)) _ (h .0) .0), ltb-false 16 _ (h .1))
 
 -- ---- in their order
 
@@ -91,23 +64,20 @@ module _ (buffer : List ℕ) (len : ℕ) (g : Given) where
   grouped : appendTests buffer len g
       ≡ refuse 11 (appendOverLimit buffer len g)
       ∷ refuse 12 (not (isClean old (reading old)))
-      ∷ (descriptionTests (g .description) ++ (fileTests old (g .parents) (g .description .serial) ++ behind))
-  unfolding appendTests descriptionTests fileTests behind old
+      ∷ (descriptionTests (g .description) ++ (testsOf old (g .parents) (g .description .serial) ++ behind))
+  unfolding appendTests descriptionTests fileTests parentsWrong parentsRefused behind old
   grouped = refl
 
-  pub refused-11 : (overLimit (sizes buffer g) || ltb (length buffer) len) ≡ true → 11 ≡ firstRefusal (appendTests buffer len g)
-  unfolding appendOverLimit
+  pub refused-11 : appendOverLimit buffer len g ≡ true → 11 ≡ firstRefusal (appendTests buffer len g)
   refused-11 e = rw grouped (sym (refusal-first 11 _ _ e))
 
-  module _ (lent : (overLimit (sizes buffer g) || ltb (length buffer) len) ≡ false) where
-    not-over : appendOverLimit buffer len g ≡ false
-    unfolding appendOverLimit
-    not-over = lent
-
+  module _ (lent : appendOverLimit buffer len g ≡ false) where
     small : overLimit (sizes buffer g) ≡ false
+    unfolding appendOverLimit
     small = or-false (overLimit (sizes buffer g)) (ltb (length buffer) len) lent .0
 
     pub inside : len ≤ length buffer
+    unfolding appendOverLimit
     inside = ltb-false (length buffer) len (or-false (overLimit (sizes buffer g)) (ltb (length buffer) len) lent .1)
 
     pub buffer-small : length buffer ≤ 2 ^ 30
@@ -121,14 +91,14 @@ module _ (buffer : List ℕ) (len : ℕ) (g : Given) where
 
     pub refused-12 : isClean (take len buffer) (reading (take len buffer)) ≡ false → 12 ≡ firstRefusal (appendTests buffer len g)
     unfolding old
-    refused-12 e = rw grouped (sym (refusal-next 11 _ _ not-over ∙ refusal-first 12 (not (isClean (take len buffer) (reading (take len buffer)))) _ (rw e)))
+    refused-12 e = rw grouped (sym (refusal-next 11 _ _ lent ∙ refusal-first 12 (not (isClean (take len buffer) (reading (take len buffer)))) _ (rw e)))
 
     module _ (clean : isClean (take len buffer) (reading (take len buffer)) ≡ true) where
       -- 11 and 12 passed
       described : firstRefusal (appendTests buffer len g)
-          ≡ firstRefusal (descriptionTests (g .description) ++ (fileTests (take len buffer) (g .parents) (g .description .serial) ++ behind))
+          ≡ firstRefusal (descriptionTests (g .description) ++ (testsOf (take len buffer) (g .parents) (g .description .serial) ++ behind))
       unfolding old
-      described = rw grouped (refusal-next 11 _ _ not-over ∙ refusal-next 12 (not (isClean (take len buffer) (reading (take len buffer)))) _ (rw clean))
+      described = rw grouped (refusal-next 11 _ _ lent ∙ refusal-next 12 (not (isClean (take len buffer) (reading (take len buffer)))) _ (rw clean))
 
       pub refused-own : (n : ℕ) → n ≡ firstRefusal (descriptionTests (g .description)) → (n ≡ 0 → ⊥) → n ≡ firstRefusal (appendTests buffer len g)
       refused-own n e z = e ∙ sym (described ∙ refused-group (descriptionTests (g .description)) _ (λ q. z (e ∙ q)))
@@ -142,20 +112,20 @@ module _ (buffer : List ℕ) (len : ℕ) (g : Given) where
             (not-false _ (h6 .0), h17 .0)
 
         -- 6 and 17 passed
-        filed : firstRefusal (appendTests buffer len g) ≡ firstRefusal (fileTests (take len buffer) (g .parents) (g .description .serial) ++ behind)
+        filed : firstRefusal (appendTests buffer len g) ≡ firstRefusal (testsOf (take len buffer) (g .parents) (g .description .serial) ++ behind)
         unfolding descriptionTests
         filed =
             let form = own-parts .0 in
             described ∙ refusal-next 6 (not (appendFormed (g .description))) _ (rw form) ∙ refusal-next 17 _ _ (own-parts .1)
 
-        pub refused-there : (n : ℕ) → n ≡ firstRefusal (fileTests (take len buffer) (g .parents) (g .description .serial)) → (n ≡ 0 → ⊥) → n ≡ firstRefusal (appendTests buffer len g)
-        refused-there n e z = e ∙ sym (filed ∙ refused-group (fileTests (take len buffer) (g .parents) (g .description .serial)) _ (λ q. z (e ∙ q)))
+        pub refused-there : (n : ℕ) → n ≡ firstRefusal (testsOf (take len buffer) (g .parents) (g .description .serial)) → (n ≡ 0 → ⊥) → n ≡ firstRefusal (appendTests buffer len g)
+        refused-there n e z = e ∙ sym (filed ∙ refused-group (testsOf (take len buffer) (g .parents) (g .description .serial)) _ (λ q. z (e ∙ q)))
 
-        module _ (there : firstRefusal (fileTests (take len buffer) (g .parents) (g .description .serial)) ≡ 0) where
+        module _ (there : firstRefusal (testsOf (take len buffer) (g .parents) (g .description .serial)) ≡ 0) where
           there-parts : (parentsWrong (rowsOf (take len buffer)) (g .parents) ≡ false)
               × (known (g .description .serial) (serialsOf (rowsOf (take len buffer))) ≡ false)
               × (all nonZero (markOf (take len buffer)) ≡ true)
-          unfolding fileTests
+          unfolding fileTests parentsWrong parentsRefused
           there-parts =
               let h13 = refusal-none 12 _ _ there in
               let h9 = refusal-none 8 _ _ (h13 .1) in
@@ -163,11 +133,11 @@ module _ (buffer : List ℕ) (len : ℕ) (g : Given) where
               (h13 .0, h9 .0, not-false _ (h15 .0))
 
           pub parents-few : length (g .parents) ≤ 16
-          parents-few = named-parts (take len buffer) (g .parents) (there-parts .0) .1
+          parents-few = parents-parts (take len buffer) g (there-parts .0) .1
 
           -- 13, 9 and 15 passed
           left-over : firstRefusal (appendTests buffer len g) ≡ firstRefusal behind
-          unfolding fileTests
+          unfolding fileTests parentsWrong parentsRefused
           left-over =
               let clear = there-parts .2 in
               filed ∙ refusal-next 13 _ _ (there-parts .0) ∙ refusal-next 9 _ _ (there-parts .1) ∙ refusal-next 15 (not (all nonZero (markOf (take len buffer)))) _ (rw clear)
@@ -185,7 +155,7 @@ module _ (buffer : List ℕ) (len : ℕ) (g : Given) where
             is-taken =
                 let cleanly = clean-parts (take len buffer) clean in
                 let form = formed-parts g (own-parts .0) in
-                let named = named-parts (take len buffer) (g .parents) (there-parts .0) in
+                let named = parents-parts (take len buffer) g (there-parts .0) in
                 record {
                   specific-small = specific-small;
                   contents-small = contents-small;

@@ -25,9 +25,9 @@ use Rattle.laws.proofs.Loops.{placed-placed, placed-nothing}
 use Rattle.laws.proofs.Distances.{lines}
 use Rattle.table.specs.Codes.{linesFrom}
 use Rattle.lines.specs.Values.{chopped, valuesSize}
-use Rattle.append.specs.Values.{joined}
+use Rattle.append.specs.Values.{joined, valuesAt}
 use Rattle.append.proofs.Joined.{Fills, chopped-joined}
-use Rattle.append.proofs.Files.{serial-long, name-long}
+use Rattle.append.proofs.Files.{serial-long, name-long, serial-wide, name-wide}
 
 -- ---- values and lines
 
@@ -97,10 +97,11 @@ module _ (old : List ℕ) where
   unfolding parentLines dependencyFields
   one-parent k = rw append-nil
 
-  pub parent-written : (k : ℕ) (v : List ℕ) → k < length (rowsOf old) → v ≡ joined (parentValues old (rowsOf old) (k ∷ []))
-      → write (linesOf (linesFrom 9 2)) (chopped (linesFrom 9 2) v) ≡ parentLines (k ∷ [])
-  parent-written k v h e =
-      rw (e, parent-lines, chopped-joined (dependencySerial ∷ dependencySubFormat ∷ []) _ (parent-fills k h)) (one-parent k)
+  pub parent-written : (serial name : ℕ) (v : List ℕ) → serial + 38 ≤ length old → name + 256 ≤ length old → v ≡ joined (valuesAt old serial name)
+      → write (linesOf (linesFrom 9 2)) (chopped (linesFrom 9 2) v) ≡ write (dependencyFields 1) (valuesAt old serial name)
+  unfolding valuesAt dependencyFields Fills lines
+  parent-written serial name v s n e =
+      rw (e, parent-lines, chopped-joined (dependencySerial ∷ dependencySubFormat ∷ []) (valuesAt old serial name) (serial-wide old serial name s n, (name-wide old serial name s n, tt)), append-nil)
 
   one-length : (k : ℕ) → k < length (rowsOf old) → length (parentLines (k ∷ [])) ≡ 344
   unfolding linesFrom table

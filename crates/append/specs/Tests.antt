@@ -6,29 +6,24 @@ use lib.Dec.{ltb}
 use lib.ListN.{length}
 use Rattle.metafile.specs.declared.Description.{Description}
 use Rattle.metafile.specs.Bytes.{all, nonZero, same, find}
-use Rattle.metafile.specs.Fields.{known}
 use Rattle.metafile.specs.Lines.{BIN}
 use Rattle.metafile.specs.Header.{isLLC, markOf}
 use Rattle.metafile.specs.Chunk.{multiName}
-use Rattle.metafile.specs.Reading.{rowsOf, serialsOf}
 use Rattle.metafile.specs.Answers.{Test, refuse}
-use Rattle.metafile.specs.Append.{subFormatGiven, appendFormed, allBelow, repeated, parentsWrong}
+use Rattle.metafile.specs.Append.{subFormatGiven, appendFormed, allBelow, repeated}
 
 -- 6 and 17: the description
 unfoldable pub descriptionTests : Description → List Test
 descriptionTests d = refuse 6 (not (appendFormed d)) ∷ refuse 17 (same (subFormatGiven d) multiName) ∷ []
 
--- 13, 9 and 15: rows named as parents, the serial number, the mark, held against the file
-unfoldable pub fileTests : List ℕ → List ℕ → List ℕ → List Test
-fileTests file parents serial =
-    refuse 13 (parentsWrong (rowsOf file) parents)
-    ∷ refuse 9 (known serial (serialsOf (rowsOf file)))
-    ∷ refuse 15 (not (all nonZero (markOf file)))
-    ∷ []
-
 -- 13 for a file of n rows
 unfoldable pub parentsRefused : ℕ → List ℕ → Bool
 parentsRefused n ks = not (allBelow n ks) || repeated ks || ltb 16 (length ks)
+
+-- 13, 9 and 15 for a file of n rows: rows named as parents, the serial number in a row or not, the mark
+unfoldable pub fileTests : List ℕ → ℕ → Bool → List ℕ → List Test
+fileTests file n isKnown parents =
+    refuse 13 (parentsRefused n parents) ∷ refuse 9 isKnown ∷ refuse 15 (not (all nonZero (markOf file))) ∷ []
 
 -- 16
 unfoldable pub openRefused : List ℕ → List ℕ → List ℕ → Bool → Bool

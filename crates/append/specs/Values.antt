@@ -2,6 +2,7 @@
 use Prim.Native.Nat.{ℕ}
 use mathlib.Core.List.{List, [], _∷_, _++_}
 use Rattle.metafile.specs.declared.Description.{Description}
+use Rattle.metafile.specs.Bytes.{part}
 use Rattle.metafile.specs.Fields.{digitsOf}
 use Rattle.metafile.specs.Chunk.{headerLengthFor, dependencyLengthFor}
 use Rattle.metafile.specs.Append.{givenValues}
@@ -13,3 +14,7 @@ joined (v ∷ vs) = v ++ joined vs
 -- the values of the head for n parents and s bytes of specific data
 unfoldable pub headValuesFor : Description → ℕ → ℕ → List (List ℕ)
 headValuesFor d n s = digitsOf 12 (headerLengthFor n s) ∷ givenValues d ++ digitsOf 12 (dependencyLengthFor n) ∷ digitsOf 4 n ∷ []
+
+-- "Each parent's serial and sub-format are copied from its chunk": the two, by their places in the file
+unfoldable pub valuesAt : List ℕ → ℕ → ℕ → List (List ℕ)
+valuesAt file serial name = part serial 38 file ∷ part name 256 file ∷ []

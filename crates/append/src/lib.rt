@@ -1,7 +1,8 @@
 // append: a chunk added to a stored file, in a longer lent buffer. "Three writes, each on disk before the next: header
 // with content length line; data; closing. The answer is the three ends." Its contract is one equation with metafile's
-// Append, refusals included: then every buffer is untouched. It rests on walk for the reading of the old file, on lines
-// for the lines that are judged and written, on begin for the values of the integrity data, on search for the mark.
+// Append, refusals included: then every buffer is untouched. The old file is read once, by walk's survey, which the tests
+// and the copies from parents go by. It rests on walk, on lines for the lines that are judged and written, on begin for
+// the values of the integrity data, on search for the mark.
 //     tests    "Append tests 11, 12, 6, 17, 13, 9, 15, 16, 18"
 //     parents  13: rows named as parents
 //     values   the values of the lines, from the description and from parents
@@ -30,6 +31,17 @@ pub fn append(
     ensures { λ r. ⌜ outcome (appendAnswer r) (now (buffer .exit))
         ≡ append (now (buffer .entry)) length (givenOf description (now (parents .entry)) (now (specific .entry)) (now (contents .entry)) «open») ⌝ }
 {
+    let serial = description.serial;
+    if tests::over_limit(
+        buffer.len(),
+        length,
+        specific.len(),
+        contents.len(),
+        description,
+    ) {
+        return AppendAnswer::Refused(11);
+    }
+    let survey = walk::survey(&buffer[..length], serial, parents);
     let number = tests::refusal(
         buffer,
         length,
@@ -38,6 +50,7 @@ pub fn append(
         specific,
         contents,
         open,
+        survey,
     );
     if number != 0 {
         return AppendAnswer::Refused(number);
@@ -50,5 +63,6 @@ pub fn append(
         specific,
         contents,
         open,
+        survey,
     )
 }

@@ -1,21 +1,24 @@
-// Append's tests, in the order 11, 12, 6, 17, 13, 9, 15, 16, 18: the first that refuses gives the number.
+// Append's tests, in the order 11, 12, 6, 17, 13, 9, 15, 16, 18: the first that refuses gives the number. The file is read
+// between 11 and 12: the others go by its survey.
 use crate::parents::parents_wrong;
 use crate::values::closing_values;
 use crate::values::given_values;
 use metafile::Description;
 use walk::Header;
-use walk::Walk;
-ghost use mathlib.Core.Bool.{_||_};
+use walk::Survey;
+ghost use mathlib.Core.Bool.{false, _||_};
 ghost use mathlib.Core.List.{[], _∷_, _++_};
 ghost use mathlib.Core.Path.{_≡_};
 ghost use Prim.Native.Nat.{_+_, _*_, _≤_};
 ghost use lib.Dec.{ltb};
+ghost use lib.ListN.{take};
 ghost use Rattle.metafile.specs.Bytes.{same, find};
 ghost use Rattle.metafile.specs.Chunk.{multiName};
 ghost use Rattle.metafile.specs.Reading.{reading, isClean};
 ghost use Rattle.metafile.specs.Answers.{overLimit, firstRefusal};
-ghost use Rattle.metafile.specs.Append.{subFormatGiven, appendFormed, appendTests};
-ghost use Rattle.walk.specs.Walk.{headerOf, walkOf};
+ghost use Rattle.metafile.specs.Append.{subFormatGiven, appendFormed, appendOverLimit, appendTests};
+ghost use Rattle.walk.specs.Walk.{headerOf};
+ghost use Rattle.walk.specs.Survey.{surveyOf};
 ghost use Rattle.append.specs.Given.{givenOf};
 ghost use Rattle.append.specs.Tests.{descriptionTests, fileTests, openRefused};
 
@@ -29,7 +32,7 @@ const SUB_FORMAT: usize = 1;
 const CHUNK_SERIAL: usize = 16;
 
 // 11: a lent byte buffer over the limit, or length over the buffer's.
-fn over_limit(
+pub fn over_limit(
     buffer: usize,
     length: usize,
     specific: usize,
@@ -51,11 +54,11 @@ fn over_limit(
 }
 
 // 12
-fn is_clean(file: &[u8], w: Walk) -> bool
-    requires { ⌜ w ≡ walkOf (now file) ⌝ }
+fn is_clean(file: &[u8], number: u8, stop: usize) -> bool
+    requires { ⌜ (number ≡ reading (now file) .number) × (stop ≡ reading (now file) .stop) ⌝ }
     ensures { λ r. ⌜ r ≡ isClean (now (file .entry)) (reading (now (file .entry))) ⌝ }
 {
-    (w.number == 0) & (w.stop == file.len())
+    (number == 0) & (stop == file.len())
 }
 
 // 6: each field as the reader judges it; an over-long text first.
@@ -100,17 +103,16 @@ fn description_refusal(d: Description) -> u8
     0
 }
 
-// 13, 9, 15: against the rows and the mark of a file whose header is whole.
-fn file_refusal(file: &[u8], h: Header, w: Walk, parents: &[usize], serial: [u8; 38]) -> u8
+// 13, 9, 15: against the number of rows, the serial number in a row or not, and the mark of a file whose header is whole.
+fn file_refusal(file: &[u8], h: Header, count: usize, known: bool, parents: &[usize]) -> u8
     requires { ⌜ h ≡ headerOf (now file) ⌝ }
     requires { ⌜ h .number ≡ 0 ⌝ }
-    requires { ⌜ w ≡ walkOf (now file) ⌝ }
-    ensures { λ r. ⌜ r ≡ firstRefusal (fileTests (now (file .entry)) (now (parents .entry)) serial) ⌝ }
+    ensures { λ r. ⌜ r ≡ firstRefusal (fileTests (now (file .entry)) count known (now (parents .entry))) ⌝ }
 {
-    if parents_wrong(w.count, parents) {
+    if parents_wrong(count, parents) {
         return 13;
     }
-    if walk::row_with(file, h, serial) < w.count {
+    if known {
         return 9;
     }
     let end = 65 + h.mark;
@@ -150,6 +152,7 @@ fn new_end(length: usize, parents: usize, specific: usize, contents: usize, mark
     length + (602 + 344 * parents + specific) + contents + (254 + 2 * mark)
 }
 
+// All tests but 11, which what is lent has passed.
 pub fn refusal(
     buffer: &[u8],
     length: usize,
@@ -158,17 +161,15 @@ pub fn refusal(
     specific: &[u8],
     contents: &[u8],
     open: bool,
+    survey: Survey,
 ) -> u8
+    requires { ⌜ appendOverLimit (now buffer) length (givenOf d (now parents) (now specific) (now contents) «open») ≡ false ⌝ }
+    requires { ⌜ survey ≡ surveyOf (take length (now buffer)) (d .serial) (now parents) ⌝ }
     ensures { λ r. ⌜ r ≡ firstRefusal (appendTests (now (buffer .entry)) length (givenOf d (now (parents .entry)) (now (specific .entry)) (now (contents .entry)) «open»)) ⌝ }
 {
-    let serial = d.serial;
     let generic = d.generic;
-    if over_limit(buffer.len(), length, specific.len(), contents.len(), d) {
-        return 11;
-    }
     let file = &buffer[..length];
-    let w = walk::walk(file);
-    if !is_clean(file, w) {
+    if !is_clean(file, survey.number, survey.stop) {
         return 12;
     }
     let own = description_refusal(d);
@@ -176,7 +177,7 @@ pub fn refusal(
         return own;
     }
     let h = walk::header(file);
-    let there = file_refusal(file, h, w, parents, serial);
+    let there = file_refusal(file, h, survey.count, survey.known, parents);
     if there != 0 {
         return there;
     }

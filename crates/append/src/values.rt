@@ -4,15 +4,13 @@ use metafile::Description;
 ghost use mathlib.Core.Bool.{cond};
 ghost use mathlib.Core.List.{[], _∷_, _++_};
 ghost use mathlib.Core.Path.{_≡_};
-ghost use Prim.Native.Nat.{_+_, _≤_, _<_};
+ghost use Prim.Native.Nat.{_+_, _≤_};
 ghost use lib.ListN.{length, replicate};
 ghost use Rattle.metafile.specs.Fields.{digitsOf, padded};
 ghost use Rattle.metafile.specs.Lines.{timeStandard, eventSynch};
-ghost use Rattle.metafile.specs.Header.{headerFault};
-ghost use Rattle.metafile.specs.Reading.{rowsOf};
 ghost use Rattle.metafile.specs.Closing.{integrityValues};
-ghost use Rattle.metafile.specs.Append.{stampGiven, givenValues, integrityGiven, parentValues};
-ghost use Rattle.append.specs.Values.{joined, headValuesFor};
+ghost use Rattle.metafile.specs.Append.{stampGiven, givenValues, integrityGiven};
+ghost use Rattle.append.specs.Values.{joined, headValuesFor, valuesAt};
 
 // The listed words after which a serial number stands, by their numbers.
 const ALT: usize = 7;
@@ -147,20 +145,13 @@ pub fn count_value(open: bool, long: usize) -> [u8; 12]
     values
 }
 
-// "Each parent's serial and sub-format are copied from its chunk".
-pub fn parent_values(file: &[u8], k: usize) -> [u8; 294]
-    requires { ⌜ (headerFault (now file) ≡ 0) × (k < length (rowsOf (now file))) ⌝ }
-    ensures { λ r. ⌜ r ≡ joined (parentValues (now (file .entry)) (rowsOf (now (file .entry))) (k ∷ [])) ⌝ }
+// "Each parent's serial and sub-format are copied from its chunk": by the places of the two in the file.
+pub fn parent_values(file: &[u8], serial: usize, name: usize) -> [u8; 294]
+    requires { ⌜ (serial + 38 ≤ length (now file)) × (name + 256 ≤ length (now file)) ⌝ }
+    ensures { λ r. ⌜ r ≡ joined (valuesAt (now (file .entry)) serial name) ⌝ }
 {
-    let h = walk::header(file);
-    let row = walk::row_at(file, h, k);
-    let place = row.place;
-    let layout = row.layout;
-    let serial = walk::serial_at(file, h, place, layout);
-    let name = place + 46;
-    let behind = place + 302;
     let mut values = [32u8; 294];
-    lines::put_bytes(&mut values, 0, &serial);
-    lines::put_bytes(&mut values, 38, &file[name..behind]);
+    lines::put_bytes(&mut values, 0, &file[serial..serial + 38]);
+    lines::put_bytes(&mut values, 38, &file[name..name + 256]);
     values
 }

@@ -3,6 +3,7 @@
 --     part-whole padded-full    a part that is the whole, a text that fills its width
 --     placed-over placed-start placed-behind   bytes put at the start of a buffer, and others behind them
 --     title-put                 strategy and mark length
+--     spaces placed-padded      a text put into a run of spaces
 --     joined values-put         the values of the integrity data
 -- Assumes nothing.
 use Prim.Native.Nat.{ℕ, _+_, _-_, _≤_}
@@ -20,7 +21,7 @@ use Rattle.laws.proofs.Digits.{length-digitsOf}
 pub part-whole : (v : List ℕ) (n : ℕ) → length v ≡ n → part 0 n v ≡ v
 part-whole v n e = take-all n v (omega arith)
 
-padded-full : (n : ℕ) (v : List ℕ) → length v ≡ n → padded n v ≡ v
+pub padded-full : (n : ℕ) (v : List ℕ) → length v ≡ n → padded n v ≡ v
 unfolding padded
 padded-full n v e =
     let none : n - length v ≡ 0 = omega arith in
@@ -60,16 +61,15 @@ title-put s n at b b₁ b₂ hs hb ha e₁ e₂ =
 
 -- ---- into spaces
 
-spaces : ℕ → List ℕ
+abbrev pub spaces : ℕ → List ℕ
 spaces n = replicate n 32
 
 spaces-split : (n k : ℕ) → spaces (n + k) ≡ spaces n ++ spaces k
-unfolding spaces
 spaces-split n k = sym (replicate-append-replicate {A = ℕ} n k 32)
 
 -- a text put behind p, at the beginning of a field of w spaces
-placed-padded : (at w n : ℕ) (p v : List ℕ) → length p ≡ at → length v ≤ w → placed at v (p ++ spaces (w + n)) ≡ p ++ padded w v ++ spaces n
-unfolding placed padded spaces
+pub placed-padded : (at w n : ℕ) (p v : List ℕ) → length p ≡ at → length v ≤ w → placed at v (p ++ spaces (w + n)) ≡ p ++ padded w v ++ spaces n
+unfolding placed padded
 placed-padded at w n p v e h =
     let sums : w + n ≡ length v + ((w - length v) + n) = omega arith in
     let split : spaces (w + n) ≡ spaces (length v) ++ (spaces (w - length v) ++ spaces n) =
@@ -90,7 +90,6 @@ pub values-put : (serial recorded recorder written writer b₁ b₂ b₃ b₄ b�
     → length serial ≡ 38 → length recorded ≡ 8 → length recorder ≤ 32 → length written ≡ 8 → length writer ≤ 32
     → b₁ ≡ placed 0 serial (replicate 118 32) → b₂ ≡ placed 38 recorded b₁ → b₃ ≡ placed 46 recorder b₂ → b₄ ≡ placed 78 written b₃ → b₅ ≡ placed 86 writer b₄
     → b₅ ≡ joined serial recorded recorder written writer
-unfolding spaces
 values-put serial recorded recorder written writer b₁ b₂ b₃ b₄ b₅ hs hr ha hw hb e₁ e₂ e₃ e₄ e₅ =
     let p₂ : List ℕ = serial ++ recorded in
     let p₃ : List ℕ = p₂ ++ padded 32 recorder in

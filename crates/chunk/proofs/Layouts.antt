@@ -3,6 +3,7 @@
 --     ContentsRead            what is known once the contents are read; contents-inside: they end inside
 --     layout-whole     there is no fault
 --     Placed, placed   a whole chunk: each number of its layout, inside the file
+--     parts-..         the parts of a whole chunk, as they are read without judging it
 --     serial-is good-is offset-.. row-is   what a row has beside them
 -- Assumes nothing.
 use Prim.Native.Nat.{ℕ, zero, suc, _+_, _-_, _≤_}
@@ -21,7 +22,7 @@ use Rattle.metafile.specs.Chunk.{head, synchType, standard, offsetBytes, depend
 use Rattle.laws.proofs.First.{choose-go, choose-stop}
 use Rattle.laws.proofs.Loops.{part-drop}
 use Rattle.chunk_laws.proofs.Contents.{contents-enough}
-use Rattle.chunk_laws.proofs.Chunk.{whole, fits}
+use Rattle.chunk_laws.proofs.Chunk.{whole, fits-head, fits-header, fits}
 use Rattle.chunk.specs.declared.parts.Layout.{Layout}
 use Rattle.multi.specs.declared.Part.{Part}
 use Rattle.chunk.specs.Layout.{faulty, partsOf, layoutOf, WholeLayout, contentsPart}
@@ -153,6 +154,51 @@ unfolding layoutOf
 placed l m s w =
     let none : chunkFault (w .llc) m s ≡ 0 = sym (ap (λ (x : Layout). x .number) (w .is) ∙ number-is m s (chunkFault (w .llc) m s)) ∙ w .whole in
     placed-parts l m s (w .llc) (w .is ∙ choose-go (chunkFault (w .llc) m s) (partsOf m s) faulty none) none
+
+-- ---- the parts of a whole chunk, as they are read: the header's bytes hb, MultiChunk or not, the contents' bytes n, where
+-- they begin behind the header
+
+module _ (llc : Bool) (m s : List ℕ) (z : chunkFault llc m s ≡ 0) where
+  pub parts-long : 567 ≤ length s
+  parts-long = fits-head llc m s (whole llc m s z)
+
+  module _ (hb : ℕ) (header-is : hb ≡ headerBytes s) where
+    pub parts-header : hb ≤ length s
+    parts-header = omega (arith, fits-header llc m s (whole llc m s z))
+
+    module _ (mc : Bool) (multi-is : mc ≡ isMulti s) where
+      pub parts-contents : contentsFault mc llc m (take (length s - hb) (drop hb s)) ≡ 0
+      parts-contents = rw (part-drop, multi-is, header-is) (whole llc m s z .in-contents)
+
+      module _ (n : ℕ) (long-is : n ≡ contentsLong mc m (take (length s - hb) (drop hb s))) (from : ℕ) (from-is : from ≡ contentsFrom mc) where
+        parts-bytes : n ≡ contentsBytes m s
+        unfolding contentsBytes
+        parts-bytes = rw (part-drop, multi-is, header-is) at long-is
+
+        parts-place : hb + from ≡ contentsPlace s
+        unfolding contentsPlace
+        parts-place = omega (arith, rw multi-is at from-is)
+
+        parts-end : hb + from + n + length m + 254 + length m ≡ chunkEnd m s
+        unfolding chunkEnd closingEnd closingPlace
+        parts-end = omega (arith, parts-place, parts-bytes)
+
+        pub parts-inside : hb + from + n + length m + 254 + length m ≤ length s
+        parts-inside = omega (arith, parts-end, fits llc m s (whole llc m s z))
+
+        pub parts-are : (d : ℕ) → d ≡ dependencies s
+            → record {
+              number = 0;
+              header = hb;
+              contents = hb + from;
+              bytes = n;
+              end = hb + from + n + length m + 254 + length m;
+              dependencies = d;
+              multichunk = mc;
+            }
+            ≡ partsOf m s
+        unfolding partsOf
+        parts-are d e = rw (parts-end, parts-place, parts-bytes, header-is, e, multi-is)
 
 -- ---- what is read behind the contents: c is where they end
 

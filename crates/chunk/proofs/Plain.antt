@@ -3,6 +3,7 @@
 --     data-open data-counted   the data's bytes
 --     plain-..    the answers on plain contents
 --     contents-.. from-..   contents of either sort
+--     whole-..    the bytes of whole contents
 -- Assumes nothing.
 use Prim.Native.Nat.{ℕ, zero, suc, _+_, _-_, _≤_, _<_}
 use mathlib.Core.Bool.{Bool, true, false, _&&_}
@@ -26,7 +27,7 @@ use Rattle.multi.specs.declared.Part.{Part}
 use Rattle.chunk.specs.Layout.{lengthLineFault, plainPart, contentsPart}
 use Rattle.multi.specs.Part.{multiPart}
 use Rattle.multi.proofs.Places.{stop, go, fits}
-use Rattle.chunk.proofs.Stages.{run-one, free-short, free-long, part-fault, part-whole}
+use Rattle.chunk.proofs.Stages.{run-one, free-short, free-long, part-fault, part-whole, part-number, part-bytes}
 
 -- ---- the content length line
 
@@ -124,3 +125,20 @@ from-multi b t = rw t
 pub from-plain : (b : Bool) → b ≡ false → 34 ≡ contentsFrom b
 unfolding contentsFrom
 from-plain b t = rw t
+
+-- ---- whole contents
+
+module _ (b llc : Bool) (m r : List ℕ) (z : contentsFault b llc m r ≡ 0) where
+  pub whole-multi : (p : Part) → b ≡ true → p ≡ multiPart r → p .bytes ≡ contentsLong b m r
+  unfolding contentsPart
+  whole-multi p t e =
+      let is = contents-multi b llc m r p t e in
+      part-bytes _ _ p is (part-number _ _ p is ∙ z)
+
+  pub whole-line : b ≡ false → 34 ≤ length r
+  unfolding contentsFault
+  whole-line t = line-whole llc r (⊳-left _ _ (sym (plain-split llc m r) ∙ (rw t at z)))
+
+  pub whole-plain : (n : ℕ) → b ≡ false → n ≡ plainBytes m r → n ≡ contentsLong b m r
+  unfolding contentsLong
+  whole-plain n t e = rw t e

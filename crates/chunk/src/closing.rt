@@ -15,7 +15,7 @@ pub fn closing_fault(s: &[u8], at: usize, mark: &[u8]) -> u8
         return fault;
     }
     let integrity = at + mark.len();
-    let wrong = lines::lines_fault(s, integrity, 16, 6);
+    let wrong = lines::integrity_fault(s, integrity);
     if wrong != 0 {
         return wrong;
     }

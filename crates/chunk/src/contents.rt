@@ -1,7 +1,7 @@
 // The contents of a chunk, over the bytes r that follow the header: a content length line and data, or those of a
 // MultiChunk. Counted data are never searched for the mark.
 ghost use mathlib.Core.Path.{_≡_};
-ghost use Rattle.metafile.specs.Chunk.{dataBytes, contentsFrom};
+ghost use Rattle.metafile.specs.Chunk.{dataBytes, contentsFault, contentsFrom, contentsLong};
 ghost use Rattle.chunk.specs.Layout.{lengthLineFault, plainPart, contentsPart};
 use crate::counts::count_at;
 use multi::Part;
@@ -60,6 +60,17 @@ pub fn contents_part(r: &[u8], multichunk: bool, llc: bool, mark: &[u8]) -> Part
         return multi::multi_part(r);
     }
     plain_part(r, llc, mark)
+}
+
+// The bytes of contents known to be whole.
+pub fn whole_bytes(r: &[u8], multichunk: bool, llc: bool, mark: &[u8]) -> usize
+    requires { ⌜ contentsFault multichunk llc (now mark) (now r) ≡ 0 ⌝ }
+    ensures { λ n. ⌜ n ≡ contentsLong multichunk (now (mark .entry)) (now (r .entry)) ⌝ }
+{
+    if multichunk {
+        return multi::multi_part(r).bytes;
+    }
+    data_bytes(&r[34..], mark, count_at(r, 21, 12))
 }
 
 // How far behind the header the contents begin: after the content length line, or at a MultiChunk's first line.

@@ -50,7 +50,7 @@ pub fn header_bytes(s: &[u8]) -> usize
 fn head_fault(s: &[u8]) -> u8
     ensures { λ r. ⌜ r ≡ run head (now (s .entry)) ⌝ }
 {
-    let fault = lines::lines_fault(s, 0, 0, 8);
+    let fault = lines::head_lines_fault(s);
     if fault != 0 {
         return fault;
     }

@@ -21,7 +21,8 @@ pub use parts::Layout;
 pub use rows::chunk_serial;
 pub use rows::row;
 ghost use mathlib.Core.Path.{_≡_};
-ghost use Rattle.chunk.specs.Layout.{faulty, layoutOf};
+ghost use Rattle.metafile.specs.Chunk.{chunkFault};
+ghost use Rattle.chunk.specs.Layout.{faulty, partsOf, layoutOf};
 
 fn refused(number: u8) -> Layout
     ensures { λ r. ⌜ r ≡ faulty number ⌝ }
@@ -64,6 +65,27 @@ pub fn layout(s: &[u8], llc: bool, mark: &[u8]) -> Layout
         header,
         contents,
         bytes: part.bytes,
+        end,
+        dependencies: header::dependencies(s),
+        multichunk,
+    }
+}
+
+// Where the parts of a chunk known to be whole stand: no label and no text is judged again.
+pub fn parts_of(s: &[u8], llc: bool, mark: &[u8]) -> Layout
+    requires { ⌜ chunkFault llc (now mark) (now s) ≡ 0 ⌝ }
+    ensures { λ r. ⌜ r ≡ partsOf (now (mark .entry)) (now (s .entry)) ⌝ }
+{
+    let header = header::header_bytes(s);
+    let multichunk = header::is_multi(s);
+    let bytes = contents::whole_bytes(&s[header..], multichunk, llc, mark);
+    let contents = header + contents::contents_from(multichunk);
+    let end = contents + bytes + mark.len() + 254 + mark.len();
+    Layout {
+        number: 0,
+        header,
+        contents,
+        bytes,
         end,
         dependencies: header::dependencies(s),
         multichunk,

@@ -28,19 +28,19 @@ pub record Lent (buffer : List ℕ) (len : ℕ) (g : Given) : Type 0 where
   pub room : thirdEnd (take len buffer) g ≤ length buffer
 
 -- a list of lengths that aren't over the limit
-within : (n : ℕ) (ns : List ℕ) → overLimit (n ∷ ns) ≡ false → (n ≤ 2 ^ 30) × (overLimit ns ≡ false)
+pub within : (n : ℕ) (ns : List ℕ) → overLimit (n ∷ ns) ≡ false → (n ≤ 2 ^ 30) × (overLimit ns ≡ false)
 unfolding overLimit limit
 within n ns e =
     let h = or-false (ltb (2 ^ 30) n) (overLimit ns) e in
     (ltb-false (2 ^ 30) n (h .0), h .1)
 
-clean-parts : (file : List ℕ) → isClean file (reading file) ≡ true → (reading file .number ≡ 0) × (reading file .stop ≡ length file)
+pub clean-parts : (file : List ℕ) → isClean file (reading file) ≡ true → (reading file .number ≡ 0) × (reading file .stop ≡ length file)
 unfolding isClean
 clean-parts file e =
     let h = and-both (isZero (reading file .number)) (eqb (reading file .stop) (length file)) e in
     (isZero-zero _ (h .0), eqb-true _ _ (h .1))
 
-formed-parts : (g : Given) → appendFormed (g .description) ≡ true
+pub formed-parts : (g : Given) → appendFormed (g .description) ≡ true
     → (formed (linesOf givenLines) (givenValues (g .description)) ≡ true)
     × (formed (linesOf integrityLines) (integrityValues (integrityGiven (g .description))) ≡ true)
 unfolding appendFormed
@@ -48,7 +48,7 @@ formed-parts g e =
     let h = and-both (not (overLong (g .description)) && formed (linesOf givenLines) (givenValues (g .description))) _ e in
     (and-both (not (overLong (g .description))) _ (h .0) .1, h .1)
 
-parents-parts : (old : List ℕ) (g : Given) → parentsWrong (rowsOf old) (g .parents) ≡ false
+pub parents-parts : (old : List ℕ) (g : Given) → parentsWrong (rowsOf old) (g .parents) ≡ false
     → (allBelow (length (rowsOf old)) (g .parents) ≡ true) × (length (g .parents) ≤ 16)
 unfolding parentsWrong
 parents-parts old g e =

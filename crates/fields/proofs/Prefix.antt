@@ -3,6 +3,7 @@
 --     within low high x                     a byte from low to high
 --     byte-below, byte-above, byte-within   a byte against two bounds
 --     within-space                          the bounds of a space
+--     all-next, all-end                     all bytes judged: one more, none left
 --     prefix-passed, prefix-stopped         one byte more that passes, a byte that doesn't
 --     prefix-end                            no byte left
 --     prefix-le, rest-le                    lengths
@@ -49,6 +50,19 @@ within-space =
     (λ q. rw (p, q) (sym (eq-eqb x 32 (omega (arith, leb-true 32 x p, leb-true x 32 q)))))
     (λ q. rw (p, q) (sym (ne-eqb x 32 (omega (arith, leb-false x 32 q))))))
     (λ p. rw p (sym (ne-eqb x 32 (omega (arith, leb-false 32 x p)))))
+
+-- ---- all bytes judged, one after another
+
+module _ (p : ℕ → Bool) (s : List ℕ) (i : ℕ) where
+  pub all-next : (good : Bool) → i < length s → all p s ≡ (good && all p (drop i s)) → all p s ≡ ((good && p (getD s i 0)) && all p (drop (i + 1) s))
+  unfolding all
+  all-next true h e = e ∙ rw (drop-cons s i 0 h, add-one i)
+  all-next false h e = e
+
+  pub all-end : (good : Bool) → length s ≤ i → all p s ≡ (good && all p (drop i s)) → good ≡ all p s
+  unfolding all
+  all-end true h e = sym (e ∙ rw (drop-of-length-le s h))
+  all-end false h e = sym e
 
 -- ---- the loop
 

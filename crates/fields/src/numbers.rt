@@ -24,16 +24,30 @@ pub fn leading(s: &[u8], low: u8, high: u8) -> usize
     i
 }
 
+// Whether all bytes lie from low to high, with no branch between them.
+fn within(s: &[u8], low: u8, high: u8) -> bool
+    ensures { λ r. ⌜ r ≡ all (λ x. leb low x && leb x high) (now (s .entry)) ⌝ }
+{
+    let mut good = true;
+    let mut i: usize = 0;
+    while i < s.len() {
+        let x = s[i];
+        good = good & (low <= x) & (x <= high);
+        i += 1;
+    }
+    good
+}
+
 pub fn is_digits(s: &[u8]) -> bool
     ensures { λ r. ⌜ r ≡ all isDigit (now (s .entry)) ⌝ }
 {
-    leading(s, b'0', b'9') == s.len()
+    within(s, b'0', b'9')
 }
 
 pub fn is_text(s: &[u8]) -> bool
     ensures { λ r. ⌜ r ≡ all isText (now (s .entry)) ⌝ }
 {
-    leading(s, 32, 126) == s.len()
+    within(s, 32, 126)
 }
 
 // A byte as a digit: what it is above "0", and 0 where it is below.

@@ -1,3 +1,4 @@
 pub mod Words
 pub mod Parts
 pub mod Values
+pub mod Stretches

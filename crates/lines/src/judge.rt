@@ -176,7 +176,7 @@ pub fn value_fault(s: &[u8], at: usize, i: usize) -> u8
 {
     let line = table::line_at(i);
     let kind = line.kind;
-    let width = line.width;
+    let width = line.width as usize;
     match kind {
         Kind::Number => count_fault(s, at, width, nines(width)),
         Kind::Checksum => count_fault(s, at, width, 255),

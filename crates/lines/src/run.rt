@@ -18,7 +18,7 @@ pub fn opened_bytes(i: usize) -> usize
     ensures { λ r. ⌜ r ≡ size (opened (lineNo i)) ⌝ }
 {
     let line = table::line_at(i);
-    line.long + line.width
+    line.long as usize + line.width as usize
 }
 
 pub fn line_bytes(i: usize) -> usize
@@ -38,7 +38,8 @@ pub fn opened_fault(s: &[u8], at: usize, i: usize) -> u8
         return label;
     }
     let line = table::line_at(i);
-    read_field(s, at + line.long, i, VALUE)
+    let long = line.long as usize;
+    read_field(s, at + long, i, VALUE)
 }
 
 pub fn line_fault(s: &[u8], at: usize, i: usize) -> u8

@@ -25,7 +25,7 @@ fn value_bytes(i: usize) -> usize
     ensures { λ r. ⌜ r ≡ width (lineNo i .kind) ⌝ }
 {
     let line = table::line_at(i);
-    line.width
+    line.width as usize
 }
 
 // Each value is one that the reader takes.

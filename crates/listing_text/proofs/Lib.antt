@@ -1,4 +1,3 @@
 pub mod Answers
 pub mod Enough
-pub mod LendArray
 pub mod Texts

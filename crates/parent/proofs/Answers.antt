@@ -2,6 +2,7 @@
 --     compared                           n bytes from each of two places on, as slices give them
 --     refused-11 refused-13 refused-14   a number only
 --     dependency-inside                  a dependency of a row that is there lies inside the file
+--     Met, met                           the row with a serial number is there: its place, inside the file
 --     missing answered                   no row has its serial; the row that has it, and whether the sub-formats agree
 -- Assumes nothing.
 use Prim.Native.Nat.{ℕ, suc, _+_, _-_, _*_, _≤_, _<_}
@@ -12,7 +13,7 @@ use native.Mathlib.Omega.{arith}
 use lib.Dec.{ltb}
 use lib.ListN.{length, take, drop}
 use lib.Seq.{drop-drop}
-use borrow.Author.Tests.{le-leb, lt-leb, lt-ltb, le-ltb}
+use borrow.Author.Tests.{le-leb, lt-leb, lt-ltb, le-ltb, ltb-true, ltb-false}
 use Rattle.metafile.specs.declared.ParentAnswer.the-variants.{Found as Answered, Missing, Refused}
 use Rattle.metafile.specs.Bytes.{part, same}
 use Rattle.metafile.specs.Chunk.{subFormat, dependencySerialOf, dependencySubFormatOf}
@@ -20,11 +21,13 @@ use Rattle.metafile.specs.Reading.{rowsOf}
 use Rattle.metafile.specs.Answers.{refused, parentAnswer, firstRefusal}
 use Rattle.metafile.specs.Append.{rowNo, subFormatOf}
 use Rattle.metafile.specs.Calls.{rowWith, chunkOf, parentRow, agree, parentTests, parent}
-use Rattle.laws.proofs.First.{choose-go, choose-stop}
+use Rattle.laws.proofs.First.{test, choose-go, choose-stop}
 use Rattle.laws.proofs.Accepted.{refusal-first, refusal-next}
+use Rattle.chunk_laws.proofs.Places.{RowInside, row-inside}
 use Rattle.walk.specs.declared.answers.Found.{Found}
-use Rattle.walk.specs.Walk.{foundAt}
-use Rattle.contents.proofs.Rows.{over, file-within, unnamed, tests-13, tests-on, tests-end, Named}
+use Rattle.walk.specs.declared.answers.Numbered.{Numbered}
+use Rattle.walk.specs.Walk.{numberedOf}
+use Rattle.contents.proofs.Rows.{over, file-within, tests-13, tests-on, tests-end, Named}
 
 slice-is : (s : List ℕ) (a n : ℕ) → take (a + n - a) (drop a s) ≡ part a n s
 slice-is s a n = let e : a + n - a ≡ n = omega arith in rw e
@@ -35,6 +38,32 @@ compared s a b n = rw (slice-is s a n, slice-is s b n)
 -- m bytes from a place of the chunk at p, as bytes of the file
 in-chunk : (file : List ℕ) (p a m : ℕ) → part (p + a) m file ≡ part a m (drop p file)
 in-chunk file p a m = rw (drop-drop a p file)
+
+-- ---- a row by its serial number
+
+pub record Met (file x : List ℕ) (f : Numbered) : Type 0 where
+  pub row-is : f .row ≡ rowWith x (rowsOf file)
+  pub in-rows : f .row < length (rowsOf file)
+  pub place-is : f .place ≡ rowNo (rowsOf file) (f .row) .place
+  pub lies : RowInside file (rowNo (rowsOf file) (f .row))
+
+module _ (file x : List ℕ) (f : Numbered) (e : f ≡ numberedOf file x) where
+  there-is : f .there ≡ ltb (rowWith x (rowsOf file)) (length (rowsOf file))
+  unfolding numberedOf
+  there-is = ap (λ (y : Numbered). y .there) e ∙ test (ltb (rowWith x (rowsOf file)) (length (rowsOf file))) (λ q. rw q) (λ q. rw q)
+
+  unmet : f .there ≡ false → length (rowsOf file) ≤ rowWith x (rowsOf file)
+  unmet t = ltb-false _ _ (sym there-is ∙ t)
+
+  pub met : f .there ≡ true → Met file x f
+  unfolding numberedOf
+  met t =
+      let q : ltb (rowWith x (rowsOf file)) (length (rowsOf file)) ≡ true = sym there-is ∙ t in
+      let row : f .row ≡ rowWith x (rowsOf file) = ap (λ (y : Numbered). y .row) e ∙ rw q in
+      let below : f .row < length (rowsOf file) = rw row (ltb-true _ _ q) in
+      record { row-is = row; in-rows = below; place-is = ap (λ (y : Numbered). y .place) e ∙ rw (q, row); lies = row-inside file (f .row) below }
+
+-- ---- the answers
 
 module _ (file : List ℕ) (k j : ℕ) where
   refused-with : (n : ℕ) → firstRefusal (parentTests file k j) ≡ suc n → parentAnswer (Refused (suc n)) ≡ parent file k j
@@ -67,26 +96,28 @@ module _ (file : List ℕ) (k j : ℕ) where
             let d : j < rowNo (rowsOf file) k .dependencies = omega (arith, w .dependencies-is) in
             tests-on _ _ k _ (file-within file h) (w .in-rows) ∙ refusal-next 14 _ [] (lt-leb _ _ d) ∙ tests-end
 
-        module _ (p : ℕ) (e : p ≡ rowWith (part (own .place + 568 + 344 * j + 25) 38 file) (rowsOf file)) where
-          row-is : p ≡ parentRow file k j
+        -- the row with the dependency's serial number
+        module _ (f : Numbered) (e : f ≡ numberedOf file (part (own .place + 568 + 344 * j + 25) 38 file)) where
+          row-is : rowWith (part (own .place + 568 + 344 * j + 25) 38 file) (rowsOf file) ≡ parentRow file k j
           unfolding parentRow chunkOf dependencySerialOf
           row-is =
               let place : own .place + 568 + 344 * j + 25 ≡ rowNo (rowsOf file) k .place + (568 + 344 * j + 25) = omega (arith, w .place-is) in
-              e ∙ rw (place, in-chunk file (rowNo (rowsOf file) k .place) (568 + 344 * j + 25) 38)
+              rw (place, in-chunk file (rowNo (rowsOf file) k .place) (568 + 344 * j + 25) 38)
 
-          module _ (f : Found) where
-            pub missing : f ≡ foundAt file p → f .there ≡ false → parentAnswer Missing ≡ parent file k j
-            unfolding parent parentAnswer
-            missing q t =
-                let out : ltb p (length (rowsOf file)) ≡ false = le-ltb _ _ (unnamed file p f q t) in
-                sym (choose-go (firstRefusal (parentTests file k j)) _ _ none ∙ rw (← row-is, out))
+          pub missing : f .there ≡ false → parentAnswer Missing ≡ parent file k j
+          unfolding parent parentAnswer
+          missing t =
+              let out : ltb (parentRow file k j) (length (rowsOf file)) ≡ false = le-ltb _ _ (rw row-is at (unmet file _ f e t)) in
+              sym (choose-go (firstRefusal (parentTests file k j)) _ _ none ∙ rw out)
 
-            pub answered : Named file p f → (b : Bool) → b ≡ same (part (own .place + 568 + 344 * j + 87) 256 file) (part (f .place + 46) 256 file)
-                → parentAnswer (Answered p b) ≡ parent file k j
-            unfolding parent parentAnswer agree chunkOf subFormatOf subFormat dependencySubFormatOf
-            answered v b q =
-                let place : own .place + 568 + 344 * j + 87 ≡ rowNo (rowsOf file) k .place + (568 + 344 * j + 87) = omega (arith, w .place-is) in
-                let there : ltb p (length (rowsOf file)) ≡ true = lt-ltb _ _ (v .in-rows) in
-                let is : b ≡ same (part (568 + 344 * j + 87) 256 (drop (rowNo (rowsOf file) k .place) file)) (part 46 256 (drop (rowNo (rowsOf file) p .place) file)) =
-                q ∙ rw (place, v .place-is, in-chunk file (rowNo (rowsOf file) k .place) (568 + 344 * j + 87) 256, in-chunk file (rowNo (rowsOf file) p .place) 46 256) in
-                sym (choose-go (firstRefusal (parentTests file k j)) _ _ none ∙ rw (← row-is, there, ← is))
+          pub answered : Met file (part (own .place + 568 + 344 * j + 25) 38 file) f
+              → (b : Bool) → b ≡ same (part (own .place + 568 + 344 * j + 87) 256 file) (part (f .place + 46) 256 file)
+              → parentAnswer (Answered (f .row) b) ≡ parent file k j
+          unfolding parent parentAnswer agree chunkOf subFormatOf subFormat dependencySubFormatOf
+          answered v b q =
+              let p : parentRow file k j ≡ f .row = sym (v .row-is ∙ row-is) in
+              let place : own .place + 568 + 344 * j + 87 ≡ rowNo (rowsOf file) k .place + (568 + 344 * j + 87) = omega (arith, w .place-is) in
+              let there : ltb (f .row) (length (rowsOf file)) ≡ true = lt-ltb _ _ (v .in-rows) in
+              let is : b ≡ same (part (568 + 344 * j + 87) 256 (drop (rowNo (rowsOf file) k .place) file)) (part 46 256 (drop (rowNo (rowsOf file) (f .row) .place) file)) =
+              q ∙ rw (place, v .place-is, in-chunk file (rowNo (rowsOf file) k .place) (568 + 344 * j + 87) 256, in-chunk file (rowNo (rowsOf file) (f .row) .place) 46 256) in
+              sym (choose-go (firstRefusal (parentTests file k j)) _ _ none ∙ rw (p, there, ← is))

@@ -1,7 +1,8 @@
 // The call parent: "Parent of row k, dependency j, both from 0: the row with that serial and whether the sub-formats
 // agree, or missing". The rows are those of a reading with rows enough, which the crate walk goes through without a
-// table; no chunk's sum is taken and nothing is written. The contract cites parent and parentAnswer of the crate metafile
-// (specs/Calls, Answers); it rests on the laws of rows in the crate contents.
+// table, once: the index of serial numbers up to row k serves the search behind it too. No chunk's sum is taken and
+// nothing is written. The contract cites parent and parentAnswer of the crate metafile (specs/Calls, Answers); it rests
+// on the laws of rows in the crate contents.
 ghost use mathlib.Core.Path.{_≡_};
 ghost use Prim.Native.Nat.{_+_, _≤_};
 ghost use lib.ListN.{length};
@@ -46,7 +47,8 @@ pub fn parent(file: &[u8], row: usize, dependency: usize) -> ParentAnswer
     if h.number != 0 {
         return ParentAnswer::Refused(NO_ROW);
     }
-    let own = walk::row_at(file, h, row);
+    let mut index = walk::empty_index();
+    let own = walk::walk_to(file, h, row, &mut index);
     if !own.there {
         return ParentAnswer::Refused(NO_ROW);
     }
@@ -54,10 +56,9 @@ pub fn parent(file: &[u8], row: usize, dependency: usize) -> ParentAnswer
         return ParentAnswer::Refused(NO_DEPENDENCY);
     }
     let at = own.place + 568 + 344 * dependency;
-    let other = walk::row_with(file, h, serial_at(file, at + 25));
-    let found = walk::row_at(file, h, other);
+    let found = walk::row_with(file, h, row, serial_at(file, at + 25), &mut index);
     if !found.there {
         return ParentAnswer::Missing;
     }
-    ParentAnswer::Found(other, agree(file, at + 87, found.place + 46))
+    ParentAnswer::Found(found.row, agree(file, at + 87, found.place + 46))
 }

@@ -1,7 +1,7 @@
 -- What holds of the loop of the call read, with nothing of the program logic in it ("Reading": "Rows are a lent list of
 -- records; those past the count are not written").
---     Facts st ys m    the loop's test is reached with the state st and the table ys: m rows are left to fill
---     begins           at the first test.        goes     after a turn.        stops    where the loop is left
+--     Facts st ys ix m    the loop's test is reached with the state st, the table ys and the index ix: m rows are left to fill
+--     begins              at the first test.        goes     after a turn.        stops    where the loop is left
 -- Rests on the laws of the states and of a reading into n rows. Assumes nothing.
 use Prim.Native.Nat.{ℕ, _+_, _-_, _≤_, _<_, min}
 use mathlib.Core.Bool.{Bool, true, false, not}
@@ -23,9 +23,11 @@ use Rattle.metafile.specs.Calls.{readAnswer, nothingRead, filled, read}
 use Rattle.laws.proofs.First.{test, untrue}
 use Rattle.chunk_laws.proofs.File.{read-unbegun, rows-unbegun}
 use Rattle.walk.specs.Walk.{headerOf, placeAfter}
+use Rattle.walk.specs.Index.{Indexed}
 use Rattle.read.specs.declared.states.State.{State}
 use Rattle.read.specs.State.{readOutcome, noHeader, nothing, stopped, going, stateAt, lastOf}
 use Rattle.walk.proofs.Stages.{header-number, header-is}
+use Rattle.walk.proofs.Index.{indexed-more}
 use Rattle.walk.proofs.Steps.{lent-rows, lent-stop, lent-number, lent-good}
 use Rattle.read.proofs.Laws.{state-over, state-unbegun, state-end, state-full, state-row, state-cases, Onward, onward}
 
@@ -67,7 +69,7 @@ take-least a l n least =
 -- ---- the loop
 
 module _ (fs : List ℕ) (xs : List Row) where
-  pub record Facts (st : State) (ys : List Row) (m : ℕ) : Type 0 where
+  pub record Facts (st : State) (ys : List Row) (ix : List ℕ) (m : ℕ) : Type 0 where
     pub n : ℕ
     pub is : st ≡ stateAt fs (length xs) n
     pub sum : n + m ≡ length xs
@@ -76,30 +78,42 @@ module _ (fs : List ℕ) (xs : List Row) where
     pub len : length ys ≡ length xs
     pub done : take n ys ≡ take n (rowsOf fs)
     pub rest : drop n ys ≡ drop n xs
+    pub indexed : Indexed fs (n + 1) ix
 
-  pub begins : Facts (stateAt fs (length xs) 0) xs (length xs)
-  begins =
-      record { n = 0; is = refl; sum = omega arith; few = omega arith; none = λ q. refl; len = refl; done = refl; rest = refl }
+  pub begins : (ix : List ℕ) → Indexed fs 1 ix → Facts (stateAt fs (length xs) 0) xs ix (length xs)
+  begins ix indexed = record {
+    n = 0;
+    is = refl;
+    sum = omega arith;
+    few = omega arith;
+    none = λ q. refl;
+    len = refl;
+    done = refl;
+    rest = refl;
+    indexed = indexed;
+  }
 
-  pub record Turn (st : State) (ys : List Row) (m : ℕ) : Type 0 where
+  pub record Turn (st : State) (ys : List Row) (ix : List ℕ) (m : ℕ) : Type 0 where
     pub within : st .n < length ys
     pub is : st ≡ stateAt fs (length xs) (st .n)
+    pub indexed : Indexed fs (st .n + 1) ix
     pub left : ℕ
     pub less : left < m
-    pub facts : Facts (stateAt fs (length xs) (st .n + 1)) (set ys (st .n) (st .row)) left
+    pub facts : (jx : List ℕ) → Indexed fs (st .n + 2) jx → Facts (stateAt fs (length xs) (st .n + 1)) (set ys (st .n) (st .row)) jx left
 
-  turn : (ys : List Row) (m n : ℕ) → Onward fs (length xs) n → n + m ≡ length xs → length ys ≡ length xs
-      → take n ys ≡ take n (rowsOf fs) → drop n ys ≡ drop n xs → Turn (going fs n) ys m
+  turn : (ys : List Row) (ix : List ℕ) (m n : ℕ) → Onward fs (length xs) n → n + m ≡ length xs → length ys ≡ length xs
+      → take n ys ≡ take n (rowsOf fs) → drop n ys ≡ drop n xs → Indexed fs (n + 1) ix → Turn (going fs n) ys ix m
   unfolding going rowNo
-  turn ys m n w sum len done rest =
+  turn ys ix m n w sum len done rest indexed =
       let row : Row = rowNo (rowsOf fs) n in
       let inside : n < length ys = omega (arith, w .roomy) in
       record {
         within = inside;
         is = sym (w .is);
+        indexed = indexed;
         left = m - 1;
         less = omega (arith, w .roomy);
-        facts = record {
+        facts = λ jx more. record {
           n = n + 1;
           is = refl;
           sum = omega (arith, w .roomy);
@@ -108,13 +122,14 @@ module _ (fs : List ℕ) (xs : List Row) where
           len = length-set ys n row ∙ len;
           done = rw (add-one n, take-suc-set ys n row inside, take-suc (rowsOf fs) n noRow (w .inside), done);
           rest = drop-set-lt (n + 1) ys n row (omega arith) ∙ sym (drop-drop 1 n ys) ∙ ap (drop 1) rest ∙ drop-drop 1 n xs;
+          indexed = indexed-more more (omega arith);
         };
       }
 
-  pub goes : (st : State) (ys : List Row) (m : ℕ) → Facts st ys m → T (st .go) → Turn st ys m
-  goes st ys m f g =
+  pub goes : (st : State) (ys : List Row) (ix : List ℕ) (m : ℕ) → Facts st ys ix m → T (st .go) → Turn st ys ix m
+  goes st ys ix m f g =
       let w = onward fs (length xs) (f .n) (rw (f .is) at (holds (st .go) g)) in
-      rw (f .is, w .is) (turn ys m (f .n) w (f .sum) (f .len) (f .done) (f .rest))
+      rw (f .is, w .is) (turn ys ix m (f .n) w (f .sum) (f .len) (f .done) (f .rest) (f .indexed))
 
   -- the table holds these rows and is else as it was
   table-is : (ys rows : List Row) (n : ℕ) → take n ys ≡ rows → length rows ≡ n → drop n ys ≡ drop n xs → ys ≡ rows ++ drop (length rows) xs
@@ -159,7 +174,7 @@ module _ (fs : List ℕ) (xs : List Row) where
       (written ys n 10 q e (omega arith) (sym (lent-number fs e (length xs) ∙ rw (lt-ltb (length xs) (length rows) (omega arith)))) done rest))
       (λ q e h k. untrue (sym (rw (state-row fs (length xs) n q e h k) at g)))
 
-  pub stops : (st : State) (ys : List Row) (m : ℕ) → Facts st ys m → T (not (st .go)) → readOutcome (lastOf st) ys ≡ read fs xs
-  stops st ys m f g =
+  pub stops : (st : State) (ys : List Row) (ix : List ℕ) (m : ℕ) → Facts st ys ix m → T (not (st .go)) → readOutcome (lastOf st) ys ≡ read fs xs
+  stops st ys ix m f g =
       rw (f .is)
       (stops-at ys m (f .n) (f .sum) (f .few) (f .none) (f .done) (f .rest) (rw (f .is) at (holds-not (st .go) g)))

@@ -1,9 +1,11 @@
 // The states of the loop of read: with n rows written, the next row to write, or the number with which the reading stops.
-// Rows beyond the table's room are looked at once, for the number 10, and no sum is taken for them.
+// Rows beyond the table's room are looked at once, for the number 10, and no sum is taken for them. The serial number of
+// the row that comes next is entered into the index, where there is room.
 ghost use mathlib.Core.Bool.{true};
 ghost use mathlib.Core.Path.{_≡_};
 ghost use Prim.Native.Nat.{_+_};
 ghost use Rattle.metafile.specs.Append.{noRow};
+ghost use Rattle.walk.specs.Index.{Indexed};
 ghost use Rattle.read.specs.State.{nothing, Behind, stateBehind, stateAt, lastOf};
 use metafile::ReadAnswer;
 use metafile::Row;
@@ -64,12 +66,20 @@ fn refused(number: u8) -> State
 }
 
 // With n rows written, the last of which ends at the place `at`.
-fn state_behind(file: &[u8], room: usize, header: Header, n: usize, at: usize) -> State
+fn state_behind(
+    file: &[u8],
+    room: usize,
+    header: Header,
+    n: usize,
+    at: usize,
+    index: &mut [u32],
+) -> State
     requires { ⌜ Behind (now file) header n at ⌝ }
-    ensures { λ r. ⌜ r ≡ stateBehind (now (file .entry)) room n ⌝ }
+    requires { ⌜ Indexed (now file) n (now index) ⌝ }
+    ensures { λ r. ⌜ (r ≡ stateBehind (now (file .entry)) room n) × Indexed (now (file .entry)) (n + 1) (now (index .exit)) ⌝ }
 {
     let none = no_row();
-    let step = walk::step(file, header, at, n);
+    let step = walk::step(file, header, at, n, index);
     if !step.go {
         return State {
             go: false,
@@ -103,8 +113,9 @@ fn state_behind(file: &[u8], room: usize, header: Header, n: usize, at: usize) -
     }
 }
 
-pub fn first(file: &[u8], room: usize) -> State
-    ensures { λ r. ⌜ r ≡ stateAt (now (file .entry)) room 0 ⌝ }
+pub fn first(file: &[u8], room: usize, index: &mut [u32]) -> State
+    requires { ⌜ Indexed (now file) 0 (now index) ⌝ }
+    ensures { λ r. ⌜ (r ≡ stateAt (now (file .entry)) room 0) × Indexed (now (file .entry)) 1 (now (index .exit)) ⌝ }
 {
     if LIMIT < file.len() {
         return refused(11);
@@ -113,16 +124,17 @@ pub fn first(file: &[u8], room: usize) -> State
     if header.number != 0 {
         return refused(header.number);
     }
-    state_behind(file, room, header, 0, header.end)
+    state_behind(file, room, header, 0, header.end, index)
 }
 
 // The state after the row of s is written.
-pub fn next(file: &[u8], room: usize, s: State) -> State
+pub fn next(file: &[u8], room: usize, s: State, index: &mut [u32]) -> State
     requires { ⌜ (s ≡ stateAt (now file) room (s .n)) × (s .go ≡ true) ⌝ }
-    ensures { λ r. ⌜ r ≡ stateAt (now (file .entry)) room (s .n + 1) ⌝ }
+    requires { ⌜ Indexed (now file) (s .n + 1) (now index) ⌝ }
+    ensures { λ r. ⌜ (r ≡ stateAt (now (file .entry)) room (s .n + 1)) × Indexed (now (file .entry)) (s .n + 2) (now (index .exit)) ⌝ }
 {
     let header = s.header;
-    state_behind(file, room, header, s.n + 1, s.row.end)
+    state_behind(file, room, header, s.n + 1, s.row.end, index)
 }
 
 pub fn last(s: State) -> ReadAnswer

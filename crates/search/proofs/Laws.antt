@@ -1,5 +1,6 @@
 -- Laws of the search for a mark ("the first place where the mark occurs"), for the loops of src/lib.rt.
 --     same-..      two runs of bytes compared from the front: lengths that differ, a byte that differs, one byte more, the end
+--     all-..       all bytes compared, one after another
 --     starts-..    a beginning: too short, inside the first of two runs, across both
 --     find-..      found here, later, never past the end
 --     Passed       the search over all is the search from a place on: nothing was found before it
@@ -12,6 +13,7 @@ use mathlib.Core.Bool.{Bool, true, false, _&&_, and-true, and-false}
 use mathlib.Core.Path.{_≡_, refl, sym, ap, _∙_}
 use mathlib.Core.List.{List, [], _∷_, _++_, append-nil}
 use native.Mathlib.Nat.{zero-add}
+use native.Mathlib.Numerals.{add-one}
 use native.Mathlib.Omega.{arith}
 use lib.Dec.{eqb}
 use lib.ListN.{length, take, drop, getD, length-append, length-drop, length-take, take-append-drop, drop-of-length-le}
@@ -55,6 +57,20 @@ same-end a b i h k e = sym (e ∙ rw (drop-of-length-le a h, drop-of-length-le b
 
 pub same-begin : (a b : List ℕ) (i : ℕ) → i ≡ 0 → same a b ≡ same (drop i a) (drop i b)
 same-begin a b i e = rw e
+
+-- all bytes compared: what holds of those passed, and the rest
+pub all-begin : (a b : List ℕ) → same a b ≡ (true && same (drop 0 a) (drop 0 b))
+all-begin a b = refl
+
+pub all-next : (a b : List ℕ) (i : ℕ) (good : Bool) → i < length a → i < length b → same a b ≡ (good && same (drop i a) (drop i b))
+    → same a b ≡ ((good && eqb (getD a i 0) (getD b i 0)) && same (drop (i + 1) a) (drop (i + 1) b))
+all-next a b i true h k e = e ∙ same-at a b i h k ∙ rw (add-one i)
+all-next a b i false h k e = e
+
+pub all-end : (a b : List ℕ) (i : ℕ) (good : Bool) → length a ≤ i → length b ≤ i → same a b ≡ (good && same (drop i a) (drop i b)) → good ≡ same a b
+unfolding same
+all-end a b i true h k e = sym (e ∙ rw (drop-of-length-le a h, drop-of-length-le b k))
+all-end a b i false h k e = sym e
 
 same-append : (a b c d : List ℕ) → length a ≡ length b → same (a ++ c) (b ++ d) ≡ (same a b && same c d)
 unfolding same

@@ -8,8 +8,24 @@ ghost use Prim.Native.Nat.{min};
 ghost use lib.ListN.{length};
 ghost use Rattle.metafile.specs.Bytes.{same, starts, find};
 
-// The same bytes.
+// The same bytes: all of them are compared, with no branch between them.
 pub fn same_bytes(a: &[u8], b: &[u8]) -> bool
+    ensures { λ r. ⌜ r ≡ same (now (a .entry)) (now (b .entry)) ⌝ }
+{
+    if a.len() != b.len() {
+        return false;
+    }
+    let mut good = true;
+    let mut i: usize = 0;
+    while i < a.len() {
+        good = good & (a[i] == b[i]);
+        i += 1;
+    }
+    good
+}
+
+// The same bytes, compared up to the first that differs: for a mark, which is tried at many places.
+fn agree(a: &[u8], b: &[u8]) -> bool
     ensures { λ r. ⌜ r ≡ same (now (a .entry)) (now (b .entry)) ⌝ }
 {
     if a.len() != b.len() {
@@ -34,7 +50,7 @@ pub fn begins(mark: &[u8], s: &[u8]) -> bool
     if s.len() < n {
         return false;
     }
-    same_bytes(&s[..n], mark)
+    agree(&s[..n], mark)
 }
 
 // The bytes s, followed by a tail, begin with the mark.
@@ -45,7 +61,7 @@ fn begins_across(mark: &[u8], s: &[u8], tail: &[u8]) -> bool
     if mark.len() <= n {
         return begins(mark, s);
     }
-    if same_bytes(s, &mark[..n]) {
+    if agree(s, &mark[..n]) {
         return begins(&mark[n..], tail);
     }
     false

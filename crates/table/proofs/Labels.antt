@@ -1,21 +1,39 @@
--- What the loops over a label need: its answers, one byte more, one byte that differs; a label put byte by byte.
+-- What a comparison with a label needs, and the loop that puts one.
+--     labels-long stands-is                 the labels, and a part of them compared
 --     label-room                            a label stands among the labels
---     label-short label-bad label-more label-good   a comparison with a label
+--     label-short label-compared            a comparison with a label
 --     placed-none placed-more placed-all    a label put byte by byte
 -- Assumes nothing.
 use Prim.Native.Nat.{ℕ, _+_, _-_, _≤_, _<_}
-use mathlib.Core.Path.{_≡_, sym, _∙_}
+use mathlib.Core.Bool.{Bool, _&&_}
+use mathlib.Core.Path.{_≡_, refl, sym, _∙_}
 use mathlib.Core.List.{List}
 use native.Mathlib.Omega.{arith}
+use lib.Dec.{eqb}
 use lib.ListN.{length, take, drop, getD, set, length-drop}
 use lib.Seq.{getD-drop, getD-take, take-length}
 use Rattle.table.specs.declared.Line.{Line as CodeLine}
 use Rattle.table.specs.Codes.{lineNo, labels, codeNo}
-use Rattle.metafile.specs.Bytes.{part}
-use Rattle.metafile.specs.Lines.{fixed, fault}
+use Rattle.table.specs.Stands.{stands}
+use Rattle.metafile.specs.Bytes.{part, same, require}
+use Rattle.metafile.specs.Lines.{fixedFault, fixed, fault}
 use Rattle.metafile.specs.Answers.{placed}
-use Rattle.laws.proofs.Loops.{agree-more, fixed-short, fixed-bad, fixed-good, put-more}
+use Rattle.laws.proofs.Table.{field-long}
+use Rattle.laws.proofs.Loops.{fixed-short, put-more}
 use Rattle.table.proofs.Lines.{label-part, label-fits, label-long}
+
+pub labels-long : length labels ≡ 512
+unfolding labels
+labels-long = refl
+
+-- a part of the file compared with a part of the labels, and LF
+pub stands-is : (s text : List ℕ) (from long at end : ℕ) (r : Bool) → text ≡ labels → r ≡ same (take (at + long - at) (drop at s)) (take (from + long - from) (drop from text))
+    → (r && eqb (getD s end 0) 10) ≡ stands from long at end s
+unfolding stands
+stands-is s text from long at end r t e =
+    let a : at + long - at ≡ long = omega arith in
+    let b : from + long - from ≡ long = omega arith in
+    rw (e, t, a, b)
 
 -- a line of the code, and its label
 module _ (i : ℕ) (h : i < 24) (line : CodeLine) (is : line ≡ codeNo i) where
@@ -41,20 +59,16 @@ module _ (i : ℕ) (h : i < 24) (line : CodeLine) (is : line ≡ codeNo i) where
       room : length (lineNo i .label) ≤ length (drop at s)
       room = simp (length-drop, long-is) (omega arith)
 
-      pub label-bad : (j : ℕ) → j < line .long → (getD s (at + j) 0 ≡ getD labels (line .label + j) 0 → ⊥) → 5 ≡ fault (fixed (lineNo i .label)) (drop at s)
-      label-bad j l n =
-          fixed-bad (lineNo i .label) (drop at s) j room (omega (arith, long-is)) (λ e. n (sym (getD-drop at s j 0) ∙ e ∙ label-byte j l))
-
-      pub label-more : (j : ℕ) → j < line .long → take j (drop at s) ≡ take j (lineNo i .label) → getD s (at + j) 0 ≡ getD labels (line .label + j) 0
-          → take (j + 1) (drop at s) ≡ take (j + 1) (lineNo i .label)
-      label-more j l e q =
-          agree-more (drop at s) (lineNo i .label) j (omega (arith, room, long-is)) (omega (arith, long-is)) e
-          (getD-drop at s j 0 ∙ q ∙ sym (label-byte j l))
-
-      pub label-good : (j : ℕ) → j ≡ line .long → take j (drop at s) ≡ take j (lineNo i .label) → 0 ≡ fault (fixed (lineNo i .label)) (drop at s)
-      label-good j q e =
-          let long : j ≡ length (lineNo i .label) = omega (arith, long-is) in
-          fixed-good (lineNo i .label) (drop at s) room (rw long at e ∙ take-length (lineNo i .label))
+      -- the part of the file compared with the part of the labels
+      pub label-compared : (b : Bool) → b ≡ same (take (at + line .long - at) (drop at s)) (take (line .label + line .long - line .label) (drop (line .label) labels))
+          → require b 5 ≡ fault (fixed (lineNo i .label)) (drop at s)
+      unfolding fault fixedFault
+      label-compared b e =
+          let long : at + line .long - at ≡ length (lineNo i .label) = omega (arith, long-is) in
+          let own : line .label + line .long - line .label ≡ line .long = omega arith in
+          let label : lineNo i .label ≡ take (line .long) (drop (line .label) labels) = rw is (label-part i h) in
+          let test : b ≡ same (take (length (lineNo i .label)) (drop at s)) (lineNo i .label) = e ∙ rw (long, own, ← label) in
+          sym (field-long (length (lineNo i .label)) (fixedFault (lineNo i .label)) (drop at s) room ∙ rw (← test))
 
   -- ---- the label put byte by byte at a place of a buffer
 

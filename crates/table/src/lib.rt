@@ -1,12 +1,16 @@
 // The table of lines: label, field kind and width of each, as chapter 5 prints them. The reader's run and the writer's
 // run both follow it, and nothing of the labels and widths stands anywhere else. specs/Codes.antt ties it to the
 // table of the definitions.
+mod stretches;
+
 ghost use mathlib.Core.Path.{_≡_};
 ghost use Prim.Native.Nat.{_+_, _<_, _≤_};
 ghost use lib.ListN.{length, drop};
 ghost use Rattle.metafile.specs.Lines.{fixed, fault};
 ghost use Rattle.metafile.specs.Answers.{placed};
 ghost use Rattle.table.specs.Codes.{codeNo, lineNo};
+pub use stretches::head_stands;
+pub use stretches::integrity_stands;
 
 pub enum Kind {
     Number,
@@ -22,12 +26,13 @@ pub enum Kind {
     Strategy,
 }
 
-// A line: where its label stands among the labels, the label's length, and the value's kind and width.
+// A line: where its label stands among the labels, the value's width, the label's length, and the value's kind. In this
+// order and at these widths no byte is left between the fields, and the compiler copies the table in few moves.
 pub struct Line {
-    pub label: usize,
-    pub long: usize,
+    pub label: u16,
+    pub width: u16,
+    pub long: u8,
     pub kind: Kind,
-    pub width: usize,
 }
 
 const LABELS: [u8; 512] =
@@ -36,147 +41,147 @@ const LABELS: [u8; 512] =
 const LINES: [Line; 24] = [
     Line {
         label: 0,
+        width: 12,
         long: 20,
         kind: Kind::Number,
-        width: 12,
     },
     Line {
         label: 20,
+        width: 256,
         long: 13,
         kind: Kind::Text,
-        width: 256,
     },
     Line {
         label: 33,
+        width: 3,
         long: 13,
         kind: Kind::Generic,
-        width: 3,
     },
     Line {
         label: 46,
+        width: 3,
         long: 22,
         kind: Kind::Synch,
-        width: 3,
     },
     Line {
         label: 68,
+        width: 41,
         long: 20,
         kind: Kind::Standard,
-        width: 41,
     },
     Line {
         label: 88,
+        width: 16,
         long: 18,
         kind: Kind::Offset,
-        width: 16,
     },
     Line {
         label: 106,
+        width: 41,
         long: 18,
         kind: Kind::Event,
-        width: 41,
     },
     Line {
         label: 124,
+        width: 12,
         long: 24,
         kind: Kind::Number,
-        width: 12,
     },
     Line {
         label: 148,
+        width: 4,
         long: 23,
         kind: Kind::Number,
-        width: 4,
     },
     Line {
         label: 171,
+        width: 38,
         long: 25,
         kind: Kind::Serial,
-        width: 38,
     },
     Line {
         label: 196,
+        width: 256,
         long: 23,
         kind: Kind::Text,
-        width: 256,
     },
     Line {
         label: 219,
+        width: 12,
         long: 21,
         kind: Kind::Number,
-        width: 12,
     },
     Line {
         label: 240,
+        width: 12,
         long: 26,
         kind: Kind::Number,
-        width: 12,
     },
     Line {
         label: 266,
+        width: 4,
         long: 21,
         kind: Kind::Number,
-        width: 4,
     },
     Line {
         label: 287,
+        width: 12,
         long: 22,
         kind: Kind::Number,
-        width: 12,
     },
     Line {
         label: 309,
+        width: 10,
         long: 19,
         kind: Kind::Text,
-        width: 10,
     },
     Line {
         label: 328,
+        width: 38,
         long: 20,
         kind: Kind::Serial,
-        width: 38,
     },
     Line {
         label: 348,
+        width: 8,
         long: 21,
         kind: Kind::Date,
-        width: 8,
     },
     Line {
         label: 369,
+        width: 32,
         long: 22,
         kind: Kind::Text,
-        width: 32,
     },
     Line {
         label: 391,
+        width: 8,
         long: 19,
         kind: Kind::Date,
-        width: 8,
     },
     Line {
         label: 410,
+        width: 32,
         long: 20,
         kind: Kind::Text,
-        width: 32,
     },
     Line {
         label: 430,
+        width: 3,
         long: 25,
         kind: Kind::Checksum,
-        width: 3,
     },
     Line {
         label: 455,
+        width: 0,
         long: 38,
         kind: Kind::Text,
-        width: 0,
     },
     Line {
         label: 493,
+        width: 6,
         long: 19,
         kind: Kind::Strategy,
-        width: 6,
     },
 ];
 
@@ -193,19 +198,16 @@ pub fn label_fault(s: &[u8], at: usize, i: usize) -> u8
     ensures { λ r. ⌜ r ≡ fault (fixed (lineNo i .label)) (drop at (now (s .entry))) ⌝ }
 {
     let line = line_at(i);
-    let from = line.label;
-    let long = line.long;
+    let from = line.label as usize;
+    let long = line.long as usize;
     if s.len() - at < long {
         return 4;
     }
-    let mut j: usize = 0;
-    while j < long {
-        if s[at + j] != LABELS[from + j] {
-            return 5;
-        }
-        j += 1;
+    let labels = LABELS;
+    if search::same_bytes(&s[at..at + long], &labels[from..from + long]) {
+        return 0;
     }
-    0
+    5
 }
 
 // Puts line i's label at a place of the buffer, and answers the place behind it.
@@ -214,11 +216,12 @@ pub fn put_label(buffer: &mut [u8], at: usize, i: usize) -> usize
     ensures { λ r. ⌜ (r ≡ at + length (lineNo i .label)) × (now (buffer .exit) ≡ placed at (lineNo i .label) (now (buffer .entry))) ⌝ }
 {
     let line = line_at(i);
-    let from = line.label;
-    let long = line.long;
+    let from = line.label as usize;
+    let long = line.long as usize;
+    let labels = LABELS;
     let mut k: usize = 0;
     while k < long {
-        buffer[at + k] = LABELS[from + k];
+        buffer[at + k] = labels[from + k];
         k += 1;
     }
     at + long

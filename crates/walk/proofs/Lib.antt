@@ -2,8 +2,12 @@
 --     Stages    the file header, by its stages
 --     Serials   serial numbers in the rows so far
 --     Steps     the steps of a reading: places, rows, where it stops, a reading into n rows
+--     Index     the index of serial numbers
 --     Loops     what the functions over the steps need
+--     Notes     the values of the rows named, in a survey
 pub mod Stages
 pub mod Serials
 pub mod Steps
+pub mod Index
 pub mod Loops
+pub mod Notes

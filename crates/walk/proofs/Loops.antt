@@ -3,9 +3,10 @@
 --     turn              from one row to the next
 --     step-..           the answers of a step; going halted: what a step's answer says
 --     found-.. walk-..  the answers of the walks
---     seen-.. with-..   the serial number of the chunk of a row, compared
+--     seen-passed with-there   the serial number of the chunk of a row, compared
+--     among-.. numbered-..     the answers on a serial number
 -- Assumes nothing.
-use Prim.Native.Nat.{ℕ, suc, _+_, _-_, _≤_, _<_}
+use Prim.Native.Nat.{ℕ, suc, _+_, _-_, _≤_, _<_, min}
 use mathlib.Core.Bool.{Bool, true, false, not}
 use mathlib.Core.Path.{_≡_, refl, sym, ap, _∙_}
 use mathlib.Core.List.{List, []}
@@ -28,11 +29,12 @@ use Rattle.chunk_laws.proofs.Rows.{some-bytes}
 use Rattle.chunk_laws.proofs.File.{file-few, good-begun, rows-unbegun, read-unbegun}
 use Rattle.chunk.specs.declared.parts.Layout.{Layout}
 use Rattle.walk.specs.declared.answers.Step.{Step}
+use Rattle.walk.specs.declared.answers.Numbered.{Numbered}
 use Rattle.chunk.specs.Layout.{layoutOf, partsOf, faulty, WholeLayout}
-use Rattle.walk.specs.Walk.{placeAfter, chunkAt, noLayout, stopWith, stepOf, walkOf, foundAt}
+use Rattle.walk.specs.Walk.{placeAfter, chunkAt, noLayout, stopWith, stepOf, walkOf, foundAt, numberedOf, amongOf}
 use Rattle.walk.proofs.Stages.{mark-part}
 use Rattle.walk.proofs.Steps.{serialsPast, restAfter, faultAfter, Stopped, after-cases, row-place, row-serial, row-unfaulted, place-suc, place-fits, stop-is}
-use Rattle.walk.proofs.Serials.{known-past, known-more, known-there, with-here}
+use Rattle.walk.proofs.Serials.{known-past, known-more, with-here, with-least, known-with}
 
 -- ---- the chunk at a place
 
@@ -57,6 +59,14 @@ module _ (file : List ℕ) (z : headerFault file ≡ 0) (n : ℕ) (count : n ≡
   pub given-whole : (l : Layout) → l ≡ chunkAt file at → l .number ≡ 0
       → WholeLayout l (take (65 + n - 65) (drop 65 file)) (take (length file - at) (drop at file))
   given-whole l is w = record { llc = isLLC file; is = is ∙ sym (given-chunk (isLLC file) refl); whole = w }
+
+  module _ (w : chunkFault (isLLC file) (markOf file) (drop at file) ≡ 0) where
+    pub given-known : (llc : Bool) → llc ≡ isLLC file → chunkFault llc (take (65 + n - 65) (drop 65 file)) (take (length file - at) (drop at file)) ≡ 0
+    given-known llc is = rw (mark-part file z n count, part-drop file at, is) w
+
+    pub given-parts : partsOf (take (65 + n - 65) (drop 65 file)) (take (length file - at) (drop at file)) ≡ chunkAt file at
+    unfolding chunkAt layoutOf
+    given-parts = rw (mark-part file z n count, part-drop file at) (sym (choose-go (chunkFault (isLLC file) (markOf file) (drop at file)) _ faulty w))
 
   pub given-serial : serialOf (take (65 + n - 65) (drop 65 file)) (take (length file - at) (drop at file)) ≡ serialOf (markOf file) (drop at file)
   given-serial = rw (mark-part file z n count, part-drop file at)
@@ -94,6 +104,9 @@ module _ (file : List ℕ) (e : headerFault file ≡ 0) where
 
   pub place-inside : (i at : ℕ) → i ≤ length (rowsOf file) → at ≡ placeAfter file i → at ≤ length file
   place-inside i at h p = rw p (place-fits file e i h)
+
+  pub place-whole : (i at : ℕ) → i < length (rowsOf file) → at ≡ placeAfter file i → chunkFault (isLLC file) (markOf file) (drop at file) ≡ 0
+  place-whole i at h p = rw p (row-unfaulted file e i h)
 
   -- ---- a step
 
@@ -161,11 +174,15 @@ module _ (file : List ℕ) (e : headerFault file ≡ 0) where
           step-seen y =
               stop-with 8 (fault-is i ∙ rw (sym number-is, z, sym seen-here, y) (⊳-go 0 _ refl ∙ require-unmet false 9 refl))
 
+          no-fault : b ≡ false → faultAfter file i ≡ 0
+          no-fault y = fault-is i ∙ rw (sym number-is, z, sym seen-here, y) (⊳-go 0 _ refl ∙ require-met true 9 refl)
+
+          pub step-turn : b ≡ false → Turn file i at l
+          step-turn y = turn i at l (go-with (no-fault y)) p is
+
           pub step-new : b ≡ false → record { go = true; number = 0; layout = l } ≡ stepOf file i
           unfolding stepOf
-          step-new y =
-              let f : faultAfter file i ≡ 0 = fault-is i ∙ rw (sym number-is, z, sym seen-here, y) (⊳-go 0 _ refl ∙ require-met true 9 refl) in
-              rw (lt-ltb i (length (rowsOf file)) (go-with f), is, p)
+          step-new y = rw (lt-ltb i (length (rowsOf file)) (go-with (no-fault y)), is, p)
 
   -- what a step's answer says
   pub record Halted (i number : ℕ) (l : Layout) : Type 0 where
@@ -228,11 +245,52 @@ module _ (x file : List ℕ) (e : headerFault file ≡ 0) (j at : ℕ) (h : j < 
   same-row : b ≡ sameSerial x (rowNo (rowsOf file) j .serial)
   same-row = rw (row-serial file e j h, sym p, sym serial-is) same-is
 
-  pub seen-there : (i : ℕ) → j < i → i ≤ length (rowsOf file) → b ≡ true → true ≡ known x (serialsOf (take i (rowsOf file)))
-  seen-there i l m y = sym (known-there x (rowsOf file) i j l m (sym same-row ∙ y))
-
   pub seen-passed : known x (serialsOf (take j (rowsOf file))) ≡ false → b ≡ false → known x (serialsOf (take (j + 1) (rowsOf file))) ≡ false
   seen-passed k y = rw add-one (known-more x (rowsOf file) j h ∙ rw (k, sym same-row, y))
 
-  pub with-there : known x (serialsOf (take j (rowsOf file))) ≡ false → b ≡ true → j ≡ rowWith x (rowsOf file)
+  with-there : known x (serialsOf (take j (rowsOf file))) ≡ false → b ≡ true → j ≡ rowWith x (rowsOf file)
   with-there k y = with-here x (rowsOf file) j h k (sym same-row ∙ y)
+
+  pub among-here : (i : ℕ) → j < i → known x (serialsOf (take j (rowsOf file))) ≡ false → b ≡ true → record { there = true; row = j; place = at } ≡ amongOf file i x
+  unfolding amongOf
+  among-here i l k y =
+      let least : min j i ≡ j = omega arith in
+      rw (← with-there k y, lt-ltb j i l, least, p)
+
+  pub numbered-here : known x (serialsOf (take j (rowsOf file))) ≡ false → b ≡ true → record { there = true; row = j; place = at } ≡ numberedOf file x
+  unfolding numberedOf
+  numbered-here k y = rw (← with-there k y, lt-ltb j (length (rowsOf file)) h, row-place file e j h, p)
+
+-- no row of the first i has the serial number
+module _ (x file : List ℕ) (i : ℕ) (h : i ≤ length (rowsOf file)) (k : known x (serialsOf (take i (rowsOf file))) ≡ false) where
+  pub among-none : (at : ℕ) → at ≡ placeAfter file i → record { there = false; row = i; place = at } ≡ amongOf file i x
+  unfolding amongOf
+  among-none at p =
+      let l = with-least x (rowsOf file) i h k in
+      let least : min (rowWith x (rowsOf file)) i ≡ i = omega arith in
+      rw (le-ltb (rowWith x (rowsOf file)) i l, least, p)
+
+  pub numbered-none : length (rowsOf file) ≤ i → record { there = false; row = 0; place = 0 } ≡ numberedOf file x
+  unfolding numberedOf
+  numbered-none l = rw (le-ltb (rowWith x (rowsOf file)) (length (rowsOf file)) (omega (arith, with-least x (rowsOf file) i h k)))
+
+-- what a search among the first i rows answers
+module _ (x file : List ℕ) (i : ℕ) (h : i ≤ length (rowsOf file)) (r : Numbered) (is : r ≡ amongOf file i x) where
+  pub among-known : r .there ≡ known x (serialsOf (take i (rowsOf file)))
+  unfolding amongOf
+  among-known = ap (λ (y : Numbered). y .there) is ∙ known-with x (rowsOf file) i h
+
+  pub among-passed : r .there ≡ false → (r .place ≡ placeAfter file i) × (known x (serialsOf (take i (rowsOf file))) ≡ false)
+  unfolding amongOf
+  among-passed y =
+      let none : known x (serialsOf (take i (rowsOf file))) ≡ false = sym among-known ∙ y in
+      let least : min (rowWith x (rowsOf file)) i ≡ i = omega (arith, with-least x (rowsOf file) i h none) in
+      (ap (λ (y : Numbered). y .place) is ∙ rw least, none)
+
+  pub among-there : headerFault file ≡ 0 → r .there ≡ true → r ≡ numberedOf file x
+  unfolding amongOf numberedOf
+  among-there e y =
+      let l : rowWith x (rowsOf file) < i = ltb-true _ _ (sym (ap (λ (y : Numbered). y .there) is) ∙ y) in
+      let least : min (rowWith x (rowsOf file)) i ≡ rowWith x (rowsOf file) = omega arith in
+      let inside : rowWith x (rowsOf file) < length (rowsOf file) = omega arith in
+      is ∙ rw (lt-ltb _ _ l, lt-ltb _ _ inside, least, row-place file e (rowWith x (rowsOf file)) inside)

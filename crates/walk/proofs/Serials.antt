@@ -1,21 +1,24 @@
 -- Serial numbers in the rows so far ("9 whole chunk, serial already in a row"; "the row with that serial").
 --     known-past                          the rows so far, in whatever order
---     known-none known-more known-there   row by row
+--     known-none known-more               row by row
 --     with-none with-here                 the row that has it
+--     with-least with-before known-with   that row, by whether the first rows have it
 -- Assumes nothing.
 use Prim.Native.Nat.{ℕ, zero, suc, _+_, _≤_, _<_}
 use mathlib.Core.Bool.{Bool, true, false, _||_}
 use mathlib.Core.Path.{_≡_, refl, sym, ap, _∙_}
 use mathlib.Core.List.{List, [], _∷_}
 use native.Mathlib.Omega.{arith}
+use lib.Dec.{ltb}
 use lib.ListN.{length, take, drop}
 use lib.Seq.{drop-length, drop-cons}
+use borrow.Author.Tests.{lt-ltb, le-ltb}
 use Rattle.metafile.specs.declared.Row.{Row}
 use Rattle.metafile.specs.Fields.{sameSerial, known}
 use Rattle.metafile.specs.Reading.{serialsOf}
 use Rattle.metafile.specs.Append.{noRow, rowNo}
 use Rattle.metafile.specs.Calls.{rowWith}
-use Rattle.laws.proofs.First.{or-false, or-left, or-right}
+use Rattle.laws.proofs.First.{test, untrue, or-false}
 use Rattle.chunk_laws.proofs.Rows.{past}
 
 or-none : (a : Bool) → (a || false) ≡ a
@@ -55,13 +58,6 @@ module _ (x : List ℕ) where
       ap (λ (b : Bool). sameSerial x (r .serial) || b) (known-more rs j (omega arith))
       ∙ or-assoc (sameSerial x (r .serial)) (known x (serialsOf (take j rs))) (sameSerial x (rowNo rs j .serial))
 
-  pub known-there : (rows : List Row) (i j : ℕ) → j < i → i ≤ length rows → sameSerial x (rowNo rows j .serial) ≡ true → known x (serialsOf (take i rows)) ≡ true
-  unfolding known serialsOf rowNo
-  known-there rows zero j h l y = absurd (omega arith)
-  known-there [] (suc i) j h l y = absurd (omega arith)
-  known-there (r ∷ rs) (suc i) zero h l y = or-left _ _ y
-  known-there (r ∷ rs) (suc i) (suc j) h l y = or-right (sameSerial x (r .serial)) _ (known-there rs i j (omega arith) (omega arith) y)
-
   -- the row that has it is behind those that don't
   with-behind : (rows : List Row) (i : ℕ) → i ≤ length rows → known x (serialsOf (take i rows)) ≡ false → rowWith x rows ≡ i + rowWith x (drop i rows)
   unfolding known serialsOf rowWith
@@ -81,3 +77,21 @@ module _ (x : List ℕ) where
   unfolding rowWith rowNo
   with-here rows i h y q =
       sym (with-behind rows i (omega arith) y ∙ rw (drop-cons rows i noRow h, q) (omega arith))
+
+  pub with-least : (rows : List Row) (i : ℕ) → i ≤ length rows → known x (serialsOf (take i rows)) ≡ false → i ≤ rowWith x rows
+  with-least rows i h y = omega (arith, with-behind rows i h y)
+
+  with-before : (rows : List Row) (i : ℕ) → known x (serialsOf (take i rows)) ≡ true → rowWith x rows < i
+  unfolding known serialsOf rowWith
+  with-before rows zero y = untrue y
+  with-before [] (suc i) y = untrue y
+  with-before (r ∷ rs) (suc i) y =
+      test (sameSerial x (r .serial))
+      (λ q. rw q (omega arith))
+      (λ q. rw q (omega (arith, with-before rs i (rw q at y))))
+
+  pub known-with : (rows : List Row) (i : ℕ) → i ≤ length rows → ltb (rowWith x rows) i ≡ known x (serialsOf (take i rows))
+  known-with rows i h =
+      test (known x (serialsOf (take i rows)))
+      (λ q. rw q (lt-ltb _ _ (with-before rows i q)))
+      (λ q. rw q (le-ltb _ _ (with-least rows i h q)))

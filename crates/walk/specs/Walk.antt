@@ -1,6 +1,6 @@
 -- What the functions of this crate answer, by the definitions of the crate metafile: the file header, one step of the
 -- reading ("Reading"), the reading's count, stop, number and header sum, and a row by its number. Assumes nothing.
-use Prim.Native.Nat.{ℕ, zero, suc}
+use Prim.Native.Nat.{ℕ, zero, suc, min}
 use mathlib.Core.Bool.{true, false, cond}
 use mathlib.Core.List.{List}
 use lib.Dec.{ltb}
@@ -10,12 +10,14 @@ use Rattle.metafile.specs.Bytes.{choose}
 use Rattle.metafile.specs.Header.{isLLC, markLength, markOf, headerFault, headerEnd, headerGood}
 use Rattle.metafile.specs.Reading.{reading, rowsOf}
 use Rattle.metafile.specs.Append.{rowNo}
+use Rattle.metafile.specs.Calls.{rowWith}
 use Rattle.chunk.specs.declared.parts.Layout.{Layout}
 use Rattle.chunk.specs.Layout.{layoutOf}
 use Rattle.walk.specs.declared.answers.Header.{Header}
 use Rattle.walk.specs.declared.answers.Step.{Step}
 use Rattle.walk.specs.declared.answers.Walk.{Walk}
 use Rattle.walk.specs.declared.answers.Found.{Found}
+use Rattle.walk.specs.declared.answers.Numbered.{Numbered}
 
 -- the file header: its first fault, or where it ends, the mark's length, the strategy, sum good or not
 unfoldable pub headerOf : List ℕ → Header
@@ -63,3 +65,19 @@ foundAt file k =
     cond (ltb k (length (rowsOf file)))
     (record { there = true; place = rowNo (rowsOf file) k .place; layout = chunkAt file (rowNo (rowsOf file) k .place) })
     (record { there = false; place = 0; layout = noLayout })
+
+-- the row with a serial number, and its place, where there is such a row
+unfoldable pub numberedOf : List ℕ → List ℕ → Numbered
+numberedOf file x =
+    cond (ltb (rowWith x (rowsOf file)) (length (rowsOf file)))
+    (record { there = true; row = rowWith x (rowsOf file); place = rowNo (rowsOf file) (rowWith x (rowsOf file)) .place })
+    (record { there = false; row = 0; place = 0 })
+
+-- the same among the first i rows; where there is none, i and where the last of them ends
+unfoldable pub amongOf : List ℕ → ℕ → List ℕ → Numbered
+amongOf file i x =
+    record {
+      there = ltb (rowWith x (rowsOf file)) i;
+      row = min (rowWith x (rowsOf file)) i;
+      place = placeAfter file (min (rowWith x (rowsOf file)) i);
+    }

@@ -32,3 +32,23 @@ pub struct Found {
     pub place: usize,
     pub layout: Layout,
 }
+
+// A row by its serial number; what row and place are where there is none, each function says.
+pub struct Numbered {
+    pub there: bool,
+    pub row: usize,
+    pub place: usize,
+}
+
+pub struct Survey {
+    pub count: usize,
+    pub stop: usize,
+    pub number: u8,
+    // header sum good
+    pub good: bool,
+    // a serial number is in a row
+    pub known: bool,
+    // where the rows named begin and end; 0 where a row is not in the reading
+    pub places: [usize; 16],
+    pub ends: [usize; 16],
+}

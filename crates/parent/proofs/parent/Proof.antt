@@ -7,10 +7,10 @@ use borrow.Author.Tests.{not-true, not-false}
 use native.Mathlib.Omega.{arith}
 use lib.ListN.{length}
 use Rattle.metafile.specs.Bytes.{part}
-use Rattle.metafile.specs.Reading.{rowsOf}
-use Rattle.metafile.specs.Calls.{rowWith}
+use Rattle.walk.specs.Walk.{numberedOf}
+use Rattle.walk.proofs.Index.{indexed-empty}
 use Rattle.contents.proofs.Rows.{unbegun, unnamed, Named, named}
-use Rattle.parent.proofs.Answers.{refused-11, refused-13, refused-14, dependency-inside, missing, answered}
+use Rattle.parent.proofs.Answers.{refused-11, refused-13, refused-14, dependency-inside, Met, met, missing, answered}
 use Rattle.parent.proofs.parent.Statement.{statement}
 use Rattle.parent.proofs.parent.Tie as tie
 
@@ -25,31 +25,40 @@ returns-2 c =
     let h = c .before .before in
     refused-13 _ _ _ (h .before .if1 .left) (unbegun _ (h .header .result) _ (h .header .ensures) (c .if2 .taken))
 
-row-at-requires : tie.Need-row-at-requires
-row-at-requires c κs = search needs
+empty-index-requires : tie.Need-empty-index-requires
+empty-index-requires c κs = search needs
 
-abbrev tested : tie.After-row-at → tie.Else1
-tested r = r .before .before .before .before
+slice-aggregate-walk-to : tie.Need-slice-aggregate-walk-to
+slice-aggregate-walk-to c = search needs
 
-abbrev start : tie.After-row-at → tie.Start
+walk-to-requires : tie.Need-walk-to-requires
+walk-to-requires c κs =
+    let e = c .before in
+    let h = e .before .before .before in
+    (h .header .ensures, (e .before .if2 .left, indexed-empty _ 0 _ (e .empty-index .ensures)))
+
+abbrev tested : tie.After-walk-to → tie.Else1
+tested r = r .before .before .before .before .before .before
+
+abbrev start : tie.After-walk-to → tie.Start
 start r = tested r .before .before
 
 returns-3 : tie.Need-returns-3
 returns-3 c =
-    let r = c .before .before in
-    refused-13 _ _ _ (tested r .if1 .left) (unnamed _ _ (r .row-at .result) (r .row-at .ensures) (not-true _ (c .if3 .taken)))
+    let r = c .before .before .before in
+    refused-13 _ _ _ (tested r .if1 .left) (unnamed _ _ (r .walk-to .result) (r .walk-to .ensures .0) (not-true _ (c .if3 .taken)))
 
 -- the row is there
-abbrev at-row : tie.Else3 → tie.After-row-at
-at-row c = c .before .before
+abbrev at-row : tie.Else3 → tie.After-walk-to
+at-row c = c .before .before .before
 
-there : (c : tie.Else3) → Named (start (at-row c) .args .file .now) (start (at-row c) .args .row) (at-row c .row-at .result)
-there c = named _ _ (at-row c .row-at .result) (at-row c .row-at .ensures) (not-false _ (c .if3 .left))
+there : (c : tie.Else3) → Named (start (at-row c) .args .file .now) (start (at-row c) .args .row) (at-row c .walk-to .result)
+there c = named _ _ (at-row c .walk-to .result) (at-row c .walk-to .ensures .0) (not-false _ (c .if3 .left))
 
 returns-4 : tie.Need-returns-4
 returns-4 c =
     let e = c .before .before in
-    refused-14 _ _ (start (at-row e) .args .dependency) (tested (at-row e) .if1 .left) (at-row e .row-at .result) (there e) (omega (arith, c .if4 .taken))
+    refused-14 _ _ (start (at-row e) .args .dependency) (tested (at-row e) .if1 .left) (at-row e .walk-to .result) (there e) (omega (arith, c .if4 .taken))
 
 -- the dependency lies inside the file
 abbrev at-there : tie.Else4 → tie.Else3
@@ -59,9 +68,9 @@ abbrev entry : tie.Else4 → tie.Start
 entry c = start (at-row (at-there c))
 
 abbrev place : tie.Else4 → ℕ
-place c = at-row (at-there c) .row-at .result .place + 568 + 344 * entry c .args .dependency
+place c = at-row (at-there c) .walk-to .result .place + 568 + 344 * entry c .args .dependency
 
-has : (c : tie.Else4) → entry c .args .dependency < at-row (at-there c) .row-at .result .layout .dependencies
+has : (c : tie.Else4) → entry c .args .dependency < at-row (at-there c) .walk-to .result .layout .dependencies
 has c = omega (arith, c .if4 .left)
 
 small : (c : tie.Else4) → length (entry c .args .file .now) ≤ 1073741824
@@ -85,30 +94,34 @@ add-serial-at c = omega (arith, inside (c .before), small (c .before))
 serial-at-requires : tie.Need-serial-at-requires
 serial-at-requires c κs = omega (arith, inside (c .before))
 
+slice-aggregate-row-with : tie.Need-slice-aggregate-row-with
+slice-aggregate-row-with c = search needs
+
 row-with-requires : tie.Need-row-with-requires
-row-with-requires c κs = search needs
+row-with-requires c κs =
+    let e = c .before .before .before in
+    let r = at-row (at-there e) in
+    let i = r .before .before in
+    (i .before .before .before .header .ensures, (i .before .if2 .left, (there (at-there e) .in-rows, r .walk-to .ensures .1)))
 
-row-at-requires-2 : tie.Need-row-at-requires-2
-row-at-requires-2 c κs = search needs
-
--- the row of the dependency's serial number
-abbrev at-other : tie.After-row-at2 → tie.Else4
+-- the row with the dependency's serial number
+abbrev at-other : tie.After-row-with → tie.Else4
 at-other c = c .before .before .before .before
 
-other-is : (c : tie.After-row-at2) → c .before .row-with .result ≡ rowWith (part (place (at-other c) + 25) 38 (entry (at-other c) .args .file .now)) (rowsOf (entry (at-other c) .args .file .now))
-other-is c = c .before .row-with .ensures ∙ ap (λ (x : List ℕ). rowWith x (rowsOf (entry (at-other c) .args .file .now))) (c .before .before .serial-at .ensures)
+other-is : (c : tie.After-row-with) → c .row-with .result ≡ numberedOf (entry (at-other c) .args .file .now) (part (place (at-other c) + 25) 38 (entry (at-other c) .args .file .now))
+other-is c = c .row-with .ensures ∙ ap (numberedOf (entry (at-other c) .args .file .now)) (c .before .before .serial-at .ensures)
 
 returns-5 : tie.Need-returns-5
 returns-5 c =
-    let r = c .before .before in
+    let r = c .before .before .before in
     let e = at-other r in
-    missing _ _ _ (small e) _ (there (at-there e)) (has e) _ (other-is r) (r .row-at2 .result) (r .row-at2 .ensures) (not-true _ (c .if5 .taken))
+    missing _ _ _ (small e) _ (there (at-there e)) (has e) (r .row-with .result) (other-is r) (not-true _ (c .if5 .taken))
 
-abbrev at-found : tie.Else5 → tie.After-row-at2
-at-found c = c .before .before
+abbrev at-found : tie.Else5 → tie.After-row-with
+at-found c = c .before .before .before
 
-found : (c : tie.Else5) → Named (entry (at-other (at-found c)) .args .file .now) (at-found c .before .row-with .result) (at-found c .row-at2 .result)
-found c = named _ _ (at-found c .row-at2 .result) (at-found c .row-at2 .ensures) (not-false _ (c .if5 .left))
+found : (c : tie.Else5) → Met (entry (at-other (at-found c)) .args .file .now) (part (place (at-other (at-found c)) + 25) 38 (entry (at-other (at-found c)) .args .file .now)) (at-found c .row-with .result)
+found c = met _ _ (at-found c .row-with .result) (other-is (at-found c)) (not-false _ (c .if5 .left))
 
 add-agree : tie.Need-add-agree
 add-agree c = let e = at-other (at-found c) in omega (arith, inside e, small e)
@@ -127,7 +140,7 @@ returns-6 : tie.Need-returns-6
 returns-6 c =
     let f = c .before .before in
     let e = at-other (at-found f) in
-    answered _ _ _ (small e) _ (there (at-there e)) (has e) _ (other-is (at-found f)) _ (found f) _ (c .agree .ensures)
+    answered _ _ _ (small e) _ (there (at-there e)) (has e) (at-found f .row-with .result) (other-is (at-found f)) (found f) _ (c .agree .ensures)
 
 pub parent-spec : {M : Type 1} → statement M
 parent-spec =
@@ -136,7 +149,9 @@ parent-spec =
     returns
     header-requires
     returns-2
-    row-at-requires
+    empty-index-requires
+    slice-aggregate-walk-to
+    walk-to-requires
     returns-3
     returns-4
     add-at
@@ -144,8 +159,8 @@ parent-spec =
     add-at-2
     add-serial-at
     serial-at-requires
+    slice-aggregate-row-with
     row-with-requires
-    row-at-requires-2
     returns-5
     add-agree
     add-agree-2

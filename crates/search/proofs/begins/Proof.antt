@@ -12,17 +12,17 @@ returns c =
     let args = c .before .before .before .args in
     starts-short (args .mark .now) (args .s .now) (omega arith)
 
-slice-aggregate-same-bytes : tie.Need-slice-aggregate-same-bytes
-slice-aggregate-same-bytes c =
+slice-aggregate-agree : tie.Need-slice-aggregate-agree
+slice-aggregate-agree c =
     let args = c .before .before .before .before .args in
     omega (arith, length-take (length (args .mark .now)) (args .s .now))
 
-same-bytes-requires : tie.Need-same-bytes-requires
-same-bytes-requires c κs = search needs
+agree-requires : tie.Need-agree-requires
+agree-requires c κs = search needs
 
 returns-2 : tie.Need-returns-2
 unfolding starts
-returns-2 c = c .same-bytes .ensures
+returns-2 c = c .agree .ensures
 
 pub begins-spec : {M : Type 1} → statement M
-begins-spec = tie.close (tie.spec returns slice-aggregate-same-bytes same-bytes-requires returns-2)
+begins-spec = tie.close (tie.spec returns slice-aggregate-agree agree-requires returns-2)

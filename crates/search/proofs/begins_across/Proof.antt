@@ -15,13 +15,13 @@ returns c =
     let args = c .before .before .before .before .before .args in
     c .begins .ensures ∙ sym (starts-inside (args .mark .now) (args .s .now) (args .tail .now) (omega arith))
 
-slice-aggregate-same-bytes : tie.Need-slice-aggregate-same-bytes
-slice-aggregate-same-bytes c =
+slice-aggregate-agree : tie.Need-slice-aggregate-agree
+slice-aggregate-agree c =
     let args = c .before .before .before .before .before .args in
     omega (arith, length-take (length (args .s .now)) (args .mark .now))
 
-same-bytes-requires : tie.Need-same-bytes-requires
-same-bytes-requires c κs = search needs
+agree-requires : tie.Need-agree-requires
+agree-requires c κs = search needs
 
 sub-begins : tie.Need-sub-begins
 sub-begins c = search needs
@@ -39,15 +39,15 @@ returns-2 : tie.Need-returns-2
 returns-2 c =
     let compared = c .before .before .before in
     let args = compared .before .before .before .before .before .before .args in
-    starts-rest (args .mark .now) (args .s .now) (args .tail .now) (compared .same-bytes .result) (c .begins2 .result) (omega arith)
-    (compared .same-bytes .ensures) (c .before .before .if2 .taken) (c .begins2 .ensures)
+    starts-rest (args .mark .now) (args .s .now) (args .tail .now) (compared .agree .result) (c .begins2 .result) (omega arith)
+    (compared .agree .ensures) (c .before .before .if2 .taken) (c .begins2 .ensures)
 
 returns-3 : tie.Need-returns-3
 returns-3 c =
     let compared = c .before in
     let args = compared .before .before .before .before .before .before .args in
-    starts-not (args .mark .now) (args .s .now) (args .tail .now) (compared .same-bytes .result) (omega arith)
-    (compared .same-bytes .ensures) (c .if2 .left)
+    starts-not (args .mark .now) (args .s .now) (args .tail .now) (compared .agree .result) (omega arith)
+    (compared .agree .ensures) (c .if2 .left)
 
 pub begins-across-spec : {M : Type 1} → statement M
 begins-across-spec =
@@ -55,8 +55,8 @@ begins-across-spec =
     (tie.spec
     begins-requires
     returns
-    slice-aggregate-same-bytes
-    same-bytes-requires
+    slice-aggregate-agree
+    agree-requires
     sub-begins
     part-begins-start
     part-begins-end

@@ -1,100 +1,98 @@
--- `table::label_fault` meets its contract. The loop's invariant: the bytes passed are those of the label. The measure:
--- what is left of the label. Assumes nothing.
-use Prim.Native.Nat.{_+_, _-_, _≤_}
-use mathlib.Core.Path.{_≡_, refl}
+-- `table::label_fault` meets its contract: the bytes are compared with the label's part of the labels. Assumes nothing.
+use mathlib.Core.Path.{_≡_, sym, _∙_}
 use native.Mathlib.Omega.{arith}
 use borrow.Author.Needs.{needs}
-use lib.ListN.{length, take, drop}
-use Rattle.table.specs.Codes.{lineNo, labels}
-use Rattle.table.proofs.Labels.{label-room, label-short, label-bad, label-more, label-good}
+use Rattle.table.specs.Codes.{labels}
+use Rattle.laws.proofs.First.{require-met, require-unmet}
+use Rattle.table.proofs.Labels.{label-room, label-short, label-compared}
 use Rattle.table.proofs.label_fault.Statement.{statement}
 use Rattle.table.proofs.label_fault.Tie as tie
 use Rattle.table.proofs.label_fault.Reads as reads
 use Rattle.table.proofs.label_fault.Lts as lts
+use Rattle.search.proofs.same_bytes.Reads as same-bytes-reads
 use Rattle.table.proofs.line_at.Reads as line-at-reads
 
-abbrev Inv-loop : tie.InvT-loop
-Inv-loop s at i from long j₀ j = (take j (drop at s) ≡ take j (lineNo i .label)) × (at + long ≤ length s) × (j ≤ long)
-
-abbrev μ-loop : tie.MeasureT-loop
-μ-loop s at i from long j₀ j = long - j
-
-line-at-requires : tie.Need-line-at-requires Inv-loop μ-loop
+line-at-requires : tie.Need-line-at-requires
 line-at-requires c κs = search needs
 
-sub-if1 : tie.Need-sub-if1 Inv-loop μ-loop
-sub-if1 c = omega arith
+cast-from : tie.Need-cast-from
+cast-from c = search needs
 
-returns : tie.Need-returns Inv-loop μ-loop
+cast-long : tie.Need-cast-long
+cast-long c = search needs
+
+sub-if1 : tie.Need-sub-if1
+sub-if1 c = search needs
+
+returns : tie.Need-returns
 returns c =
-    let at = c .before .before .before .args in
-    label-short (at .i) (omega arith) (c .before .line-at .result) (c .before .line-at .ensures) (at .s .now) (at .at) (omega arith)
-
-loop-holds : tie.Need-loop-holds Inv-loop μ-loop
-loop-holds c = (refl, omega arith, omega arith)
-
-add-if2 : tie.Need-add-if2 Inv-loop μ-loop
-add-if2 c = omega arith
-
-shared-slice-read-if2 : tie.Need-shared-slice-read-if2 Inv-loop μ-loop
-shared-slice-read-if2 c = omega arith
-
-add-if2-2 : tie.Need-add-if2-2 Inv-loop μ-loop
-add-if2-2 c =
-    let start = c .before .before .before .before .before .before in
-    let line = c .before .before .before .before .line-at in
-    omega (arith, label-room (start .args .i) (omega arith) (line .result) (line .ensures))
-
-array-read-if2 : tie.Need-array-read-if2 Inv-loop μ-loop
-array-read-if2 c =
-    let start = c .before .before .before .before .before .before in
-    let line = c .before .before .before .before .line-at in
-    omega (arith, label-room (start .args .i) (omega arith) (line .result) (line .ensures))
-
-returns-2 : tie.Need-returns-2 Inv-loop μ-loop
-unfolding labels
-returns-2 c =
-    let at = c .before .before .before .before .before .before .before .args in
-    let line = c .before .before .before .before .before .line-at in
-    let j = c .before .before .before .loop .j in
-    label-bad (at .i) (omega arith) (line .result) (line .ensures) (at .s .now) (at .at) (omega arith) j (omega arith) (c .if2 .taken)
-
-add-j : tie.Need-add-j Inv-loop μ-loop
-add-j c = omega arith
-
-loop-less : tie.Need-loop-less Inv-loop μ-loop
-loop-less c = omega arith
-
-loop-again : tie.Need-loop-again Inv-loop μ-loop
-unfolding labels
-loop-again c =
-    let at = c .before .before .before .before .before .before .before .args in
-    let line = c .before .before .before .before .before .line-at in
-    let head = c .before .before .before .loop in
-    (label-more (at .i) (omega arith) (line .result) (line .ensures) (at .s .now) (at .at) (omega arith) (head .j) (omega arith) (head .inv .0) (c .if2 .left), omega arith, omega arith)
-
-returns-3 : tie.Need-returns-3 Inv-loop μ-loop
-returns-3 c =
     let at = c .before .before .before .before .before .args in
     let line = c .before .before .before .line-at in
-    label-good (at .i) (omega arith) (line .result) (line .ensures) (at .s .now) (at .at) (omega arith) (c .before .loop .j) (omega arith) (c .before .loop .inv .0)
+    label-short (at .i) (omega arith) (line .result) (line .ensures) (at .s .now) (at .at) (omega arith)
+
+add-same-bytes : tie.Need-add-same-bytes
+add-same-bytes c = search needs
+
+sub-same-bytes : tie.Need-sub-same-bytes
+sub-same-bytes c = search needs
+
+part-same-bytes-start : tie.Need-part-same-bytes-start
+part-same-bytes-start c = search needs
+
+part-same-bytes-end : tie.Need-part-same-bytes-end
+part-same-bytes-end c = search needs
+
+add-same-bytes-2 : tie.Need-add-same-bytes-2
+add-same-bytes-2 c = search needs
+
+sub-same-bytes-2 : tie.Need-sub-same-bytes-2
+sub-same-bytes-2 c = search needs
+
+part-same-bytes-start-2 : tie.Need-part-same-bytes-start-2
+part-same-bytes-start-2 c = search needs
+
+part-same-bytes-end-2 : tie.Need-part-same-bytes-end-2
+part-same-bytes-end-2 c =
+    let at = c .before .before .before .before .before .before .before .args in
+    let line = c .before .before .before .before .before .line-at in
+    omega (arith, label-room (at .i) (omega arith) (line .result) (line .ensures))
+
+same-bytes-requires : tie.Need-same-bytes-requires
+same-bytes-requires c κs = search needs
+
+returns-2 : tie.Need-returns-2
+unfolding labels
+returns-2 c =
+    let at = c .before .before .before .before .before .before .before .before .before .before .args in
+    let line = c .before .before .before .before .before .before .before .before .line-at in
+    sym (require-met (c .before .same-bytes .result) 5 (c .if2 .taken))
+    ∙ label-compared (at .i) (omega arith) (line .result) (line .ensures) (at .s .now) (at .at) (omega arith) (c .before .same-bytes .result) (c .before .same-bytes .ensures)
+
+returns-3 : tie.Need-returns-3
+unfolding labels
+returns-3 c =
+    let at = c .before .before .before .before .before .before .before .before .before .before .args in
+    let line = c .before .before .before .before .before .before .before .before .line-at in
+    sym (require-unmet (c .before .same-bytes .result) 5 (c .if2 .left))
+    ∙ label-compared (at .i) (omega arith) (line .result) (line .ensures) (at .s .now) (at .at) (omega arith) (c .before .same-bytes .result) (c .before .same-bytes .ensures)
 
 pub label-fault-spec : {M : Type 1} → statement M
 label-fault-spec =
     tie.close
     (tie.spec
-    Inv-loop
-    μ-loop
     line-at-requires
+    cast-from
+    cast-long
     sub-if1
     returns
-    loop-holds
-    add-if2
-    shared-slice-read-if2
-    add-if2-2
-    array-read-if2
+    add-same-bytes
+    sub-same-bytes
+    part-same-bytes-start
+    part-same-bytes-end
+    add-same-bytes-2
+    sub-same-bytes-2
+    part-same-bytes-start-2
+    part-same-bytes-end-2
+    same-bytes-requires
     returns-2
-    add-j
-    loop-less
-    loop-again
     returns-3)

@@ -16,40 +16,46 @@ use Rattle.table.proofs.put_label.Lts as lts
 use Rattle.table.proofs.line_at.Reads as line-at-reads
 
 abbrev Inv-loop : tie.InvT-loop
-Inv-loop buffer₀ at i from long k₀ buffer k =
+Inv-loop buffer₀ at i from long labels₀ k₀ buffer k =
     (k ≤ long) × (length buffer ≡ length buffer₀) × (buffer ≡ placed at (take k (lineNo i .label)) buffer₀)
 
 abbrev μ-loop : tie.MeasureT-loop
-μ-loop buffer₀ at i from long k₀ buffer k = long - k
+μ-loop buffer₀ at i from long labels₀ k₀ buffer k = long - k
 
 line-at-requires : tie.Need-line-at-requires Inv-loop μ-loop
 line-at-requires c κs = search needs
+
+cast-from : tie.Need-cast-from Inv-loop μ-loop
+cast-from c = search needs
+
+cast-long : tie.Need-cast-long Inv-loop μ-loop
+cast-long c = search needs
 
 loop-holds : tie.Need-loop-holds Inv-loop μ-loop
 loop-holds c = (omega arith, refl, sym (placed-nothing _ _))
 
 add-buffer : tie.Need-add-buffer Inv-loop μ-loop
 add-buffer c =
-    let start = c .before .before .before .before in
-    let line = c .before .before .line-at in
+    let start = c .before .before .before .before .before .before in
+    let line = c .before .before .before .before .line-at in
     omega (arith, label-room (start .args .i) (omega arith) (line .result) (line .ensures))
 
 array-read-buffer : tie.Need-array-read-buffer Inv-loop μ-loop
 array-read-buffer c =
-    let start = c .before .before .before .before in
-    let line = c .before .before .line-at in
+    let start = c .before .before .before .before .before .before in
+    let line = c .before .before .before .before .line-at in
     omega (arith, label-room (start .args .i) (omega arith) (line .result) (line .ensures))
 
 add-buffer-2 : tie.Need-add-buffer-2 Inv-loop μ-loop
 add-buffer-2 c =
-    let start = c .before .before .before .before in
-    let line = c .before .before .line-at in
+    let start = c .before .before .before .before .before .before in
+    let line = c .before .before .before .before .line-at in
     omega (arith, put-fits (start .args .i) (omega arith) (line .result) (line .ensures) (start .args .buffer .now) (start .args .at) (omega arith))
 
 slice-write-buffer : tie.Need-slice-write-buffer Inv-loop μ-loop
 slice-write-buffer c =
-    let start = c .before .before .before .before in
-    let line = c .before .before .line-at in
+    let start = c .before .before .before .before .before .before in
+    let line = c .before .before .before .before .line-at in
     omega (arith, put-fits (start .args .i) (omega arith) (line .result) (line .ensures) (start .args .buffer .now) (start .args .at) (omega arith))
 
 add-k : tie.Need-add-k Inv-loop μ-loop
@@ -61,16 +67,16 @@ loop-less c = omega arith
 loop-again : tie.Need-loop-again Inv-loop μ-loop
 unfolding labels
 loop-again c =
-    let at = c .before .before .before .before .args in
-    let line = c .before .before .line-at in
+    let at = c .before .before .before .before .before .before .args in
+    let line = c .before .before .before .before .line-at in
     let head = c .before .loop in
     let next = put-next (at .i) (omega arith) (line .result) (line .ensures) (at .buffer .now) (at .at) (omega arith) (head .buffer) (head .k) (omega arith) (head .inv .2) in
     (omega arith, simp length-set (head .inv .1), next)
 
 add-result : tie.Need-add-result Inv-loop μ-loop
 add-result c =
-    let start = c .before .before .before .before in
-    let line = c .before .before .line-at in
+    let start = c .before .before .before .before .before .before in
+    let line = c .before .before .before .before .line-at in
     omega (arith, put-fits (start .args .i) (omega arith) (line .result) (line .ensures) (start .args .buffer .now) (start .args .at) (omega arith))
 
 same-length : tie.Need-same-length Inv-loop μ-loop
@@ -78,8 +84,8 @@ same-length c = c .before .loop .inv .1
 
 returns : tie.Need-returns Inv-loop μ-loop
 returns c =
-    let at = c .before .before .before .before .args in
-    let line = c .before .before .line-at in
+    let at = c .before .before .before .before .before .before .args in
+    let line = c .before .before .before .before .line-at in
     let head = c .before .loop in
     let place = put-place (at .i) (omega arith) (line .result) (line .ensures) (at .buffer .now) (at .at) (omega arith) in
     (place, put-end (at .i) (omega arith) (line .result) (line .ensures) (at .buffer .now) (at .at) (omega arith) (head .buffer) (head .k) (omega arith) (head .inv .2))
@@ -91,6 +97,8 @@ put-label-spec =
     Inv-loop
     μ-loop
     line-at-requires
+    cast-from
+    cast-long
     loop-holds
     add-buffer
     array-read-buffer

@@ -8,7 +8,6 @@ use borrow.Author.Needs.{needs}
 use borrow.Author.Tests.{not-true, not-false}
 use Rattle.metafile.specs.Bytes.{all, nonZero}
 use Rattle.metafile.specs.Header.{headerFault, markOf}
-use Rattle.walk.specs.Walk.{walkOf}
 use Rattle.append.specs.Tests.{parentsRefused}
 use Rattle.append.proofs.Files.{header-fault, mark-fits, mark-slice}
 use Rattle.append.proofs.Held.{refused-13, refused-9, refused-15, held}
@@ -16,10 +15,7 @@ use Rattle.append.proofs.tests.file_refusal.Statement.{statement}
 use Rattle.append.proofs.tests.file_refusal.Tie as tie
 
 fault : (s : tie.Start) → headerFault (s .args .file .now) ≡ 0
-fault s = header-fault (s .args .file .now) (s .args .h) (s .pre .0) (s .pre .1 .0)
-
-read : (s : tie.Start) → s .args .w ≡ walkOf (s .args .file .now)
-read s = s .pre .1 .1
+fault s = header-fault (s .args .file .now) (s .args .h) (s .pre .0) (s .pre .1)
 
 mark-room : (s : tie.Start) → 65 + s .args .h .mark ≤ length (s .args .file .now)
 mark-room s = mark-fits (s .args .file .now) (s .args .h) (s .pre .0) (fault s)
@@ -27,7 +23,7 @@ mark-room s = mark-fits (s .args .file .now) (s .args .h) (s .pre .0) (fault s)
 clear-is : (s : tie.Start) → all nonZero (markOf (s .args .file .now)) ≡ all nonZero (take (65 + s .args .h .mark - 65) (drop 65 (s .args .file .now)))
 clear-is s = ap (all nonZero) (sym (mark-slice (s .args .file .now) (s .args .h) (s .pre .0) (fault s)))
 
-right : (c : tie.Else1) → parentsRefused (c .before .before .before .before .args .w .count) (c .before .before .before .before .args .parents .now) ≡ false
+right : (c : tie.Else1) → parentsRefused (c .before .before .before .before .args .count) (c .before .before .before .before .args .parents .now) ≡ false
 right c = sym (c .before .parents-wrong .ensures) ∙ c .if1 .left
 
 parents-wrong-requires : tie.Need-parents-wrong-requires
@@ -35,21 +31,16 @@ parents-wrong-requires c κs = search needs
 
 returns : tie.Need-returns
 returns c =
-    let start = c .before .before .before .before in
-    refused-13 (start .args .file .now) (start .args .parents .now) (start .args .serial) (start .args .w) (read start)
-    (sym (c .before .parents-wrong .ensures) ∙ c .if1 .taken)
-
-row-with-requires : tie.Need-row-with-requires
-row-with-requires c κs = search needs
+    let args = c .before .before .before .before .args in
+    refused-13 (args .file .now) (args .count) (args .known) (args .parents .now) (sym (c .before .parents-wrong .ensures) ∙ c .if1 .taken)
 
 returns-2 : tie.Need-returns-2
 returns-2 c =
-    let start = c .before .before .before .before .before .before .before in
-    refused-9 (start .args .file .now) (start .args .parents .now) (start .args .serial) (start .args .w) (read start)
-    (right (c .before .before .before)) (c .before .before .row-with .result) (c .before .before .row-with .ensures) (c .if2 .taken)
+    let args = c .before .before .before .before .before .args in
+    refused-9 (args .file .now) (args .count) (args .known) (args .parents .now) (right (c .before)) (c .if2 .taken)
 
 add-end : tie.Need-add-end
-add-end c = omega (arith, mark-room (c .before .before .before .before .before .before .before .before))
+add-end c = omega (arith, mark-room (c .before .before .before .before .before .before))
 
 sub-is-clear : tie.Need-sub-is-clear
 sub-is-clear c = search needs
@@ -58,7 +49,7 @@ part-is-clear-start : tie.Need-part-is-clear-start
 part-is-clear-start c = search needs
 
 part-is-clear-end : tie.Need-part-is-clear-end
-part-is-clear-end c = omega (arith, mark-room (c .before .before .before .before .before .before .before .before))
+part-is-clear-end c = omega (arith, mark-room (c .before .before .before .before .before .before))
 
 is-clear-requires : tie.Need-is-clear-requires
 is-clear-requires c κs = search needs
@@ -66,17 +57,15 @@ is-clear-requires c κs = search needs
 returns-3 : tie.Need-returns-3
 returns-3 c =
     let new = c .before .before .before .before in
-    let start = new .before .before .before .before .before .before .before in
-    refused-15 (start .args .file .now) (start .args .parents .now) (start .args .serial) (start .args .w) (read start)
-    (right (new .before .before .before)) (new .before .before .row-with .result) (new .before .before .row-with .ensures) (new .if2 .left)
+    let start = new .before .before .before .before .before in
+    refused-15 (start .args .file .now) (start .args .count) (start .args .known) (start .args .parents .now) (right (new .before)) (new .if2 .left)
     (clear-is start ∙ sym (c .before .is-clear .ensures) ∙ not-true _ (c .if3 .taken))
 
 returns-4 : tie.Need-returns-4
 returns-4 c =
     let new = c .before .before .before .before in
-    let start = new .before .before .before .before .before .before .before in
-    held (start .args .file .now) (start .args .parents .now) (start .args .serial) (start .args .w) (read start)
-    (right (new .before .before .before)) (new .before .before .row-with .result) (new .before .before .row-with .ensures) (new .if2 .left)
+    let start = new .before .before .before .before .before in
+    held (start .args .file .now) (start .args .count) (start .args .known) (start .args .parents .now) (right (new .before)) (new .if2 .left)
     (clear-is start ∙ sym (c .before .is-clear .ensures) ∙ not-false _ (c .if3 .left))
 
 pub file-refusal-spec : {M : Type 1} → statement M
@@ -85,7 +74,6 @@ file-refusal-spec =
     (tie.spec
     parents-wrong-requires
     returns
-    row-with-requires
     returns-2
     add-end
     sub-is-clear

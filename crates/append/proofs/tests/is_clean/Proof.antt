@@ -4,7 +4,9 @@ use Rattle.append.proofs.tests.is_clean.Statement.{statement}
 use Rattle.append.proofs.tests.is_clean.Tie as tie
 
 returns : tie.Need-returns
-returns c = clean-is (c .before .before .args .file .now) (c .before .before .args .w) (c .before .before .pre)
+returns c =
+    let start = c in
+    clean-is (start .args .file .now) (start .args .number) (start .args .stop) (start .pre .0) (start .pre .1)
 
 pub is-clean-spec : {M : Type 1} → statement M
 is-clean-spec = tie.close (tie.spec returns)

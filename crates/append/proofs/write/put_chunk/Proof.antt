@@ -20,7 +20,7 @@ abbrev given : tie.Start → Given
 given s = givenOf (s .args .d) (s .args .parents .now) (s .args .specific .now) (s .args .contents .now) (s .args .«open»)
 
 accepted : (s : tie.Start) → Going (buffer s) (s .args .length) (given s)
-accepted s = going (buffer s) (s .args .length) (given s) (s .pre)
+accepted s = going (buffer s) (s .args .length) (given s) (s .pre .0)
 
 abbrev file : tie.Start → List ℕ
 file s = take (s .args .length) (buffer s)
@@ -63,7 +63,10 @@ closing-values-requires c κs =
     (fits .recorder, fits .writer)
 
 put-header-requires : tie.Need-put-header-requires
-put-header-requires c κs = search needs
+put-header-requires c κs =
+    let h = c .before .before .before .before in
+    let start = h .before .before .before .before .before .before in
+    (start .pre .0, (mark-length (file start) (h .header .result) (h .header .ensures) (accepted start .begun), start .pre .1))
 
 put-bytes-requires : tie.Need-put-bytes-requires
 put-bytes-requires c κs =

@@ -21,7 +21,7 @@ mark-end c = mark-fits (c .before .before .before .before .args .mark .now) (c .
 -- the integrity data have none either
 integrity-none : (c : tie.Else2)
     → run (linesOf (linesFrom 16 6)) (drop (c .before .before .before .before .before .before .args .at + length (c .before .before .before .before .before .before .args .mark .now)) (c .before .before .before .before .before .before .args .s .now)) ≡ 0
-integrity-none c = sym (c .before .lines-fault .ensures) ∙ c .if2 .left
+integrity-none c = sym (c .before .integrity-fault .ensures) ∙ c .if2 .left
 
 integrity-end : (c : tie.Else2) → c .before .before .before .before .before .before .args .at + length (c .before .before .before .before .before .before .args .mark .now) + 254 ≤ length (c .before .before .before .before .before .before .args .s .now)
 integrity-end c = integrity-fits (c .before .before .before .before .before .before .args .s .now) _ (integrity-none c) (mark-end (c .before .before))
@@ -37,13 +37,13 @@ returns c =
 add-integrity : tie.Need-add-integrity
 add-integrity c = search needs
 
-lines-fault-requires : tie.Need-lines-fault-requires
-lines-fault-requires c κs = (mark-end c, omega arith)
+integrity-fault-requires : tie.Need-integrity-fault-requires
+integrity-fault-requires c κs = mark-end c
 
 returns-2 : tie.Need-returns-2
 returns-2 c =
     let a = c .before .before .before .before .before .before .args in
-    go _ _ _ (mark-none (c .before .before)) (stop _ _ _ (c .before .lines-fault .ensures) (c .if2 .taken))
+    go _ _ _ (mark-none (c .before .before)) (stop _ _ _ (c .before .integrity-fault .ensures) (c .if2 .taken))
     ∙ sym (closing-split (a .mark .now) (a .s .now) (a .at))
 
 add-mark-fault : tie.Need-add-mark-fault
@@ -65,7 +65,7 @@ closing-fault-spec =
     mark-fault-requires
     returns
     add-integrity
-    lines-fault-requires
+    integrity-fault-requires
     returns-2
     add-mark-fault
     mark-fault-requires-2

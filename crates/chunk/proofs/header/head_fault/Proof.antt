@@ -11,13 +11,13 @@ use Rattle.chunk.proofs.header.head_fault.Tie as tie
 
 -- the first eight lines have no fault
 lines-none : (c : tie.Else1) → run (linesOf (linesFrom 0 8)) (c .before .before .before .args .s .now) ≡ 0
-lines-none c = sym (c .before .lines-fault .ensures) ∙ c .if1 .left
+lines-none c = sym (c .before .head-lines-fault .ensures) ∙ c .if1 .left
 
-lines-fault-requires : tie.Need-lines-fault-requires
-lines-fault-requires c κs = search needs
+head-lines-fault-requires : tie.Need-head-lines-fault-requires
+head-lines-fault-requires c κs = search needs
 
 returns : tie.Need-returns
-returns c = stop _ _ _ (c .before .lines-fault .ensures) (c .if1 .taken) ∙ sym (head-split (c .before .before .before .args .s .now))
+returns c = stop _ _ _ (c .before .head-lines-fault .ensures) (c .if1 .taken) ∙ sym (head-split (c .before .before .before .args .s .now))
 
 opened-fault-requires : tie.Need-opened-fault-requires
 opened-fault-requires c κs = (head-begun _ (lines-none c), omega arith)
@@ -26,4 +26,4 @@ returns-2 : tie.Need-returns-2
 returns-2 c = go _ _ _ (lines-none (c .before)) (c .opened-fault .ensures) ∙ sym (head-split (c .before .before .before .before .args .s .now))
 
 pub head-fault-spec : {M : Type 1} → statement M
-head-fault-spec = tie.close (tie.spec lines-fault-requires returns opened-fault-requires returns-2)
+head-fault-spec = tie.close (tie.spec head-lines-fault-requires returns opened-fault-requires returns-2)

@@ -1,17 +1,15 @@
--- `fields::numbers::is_text` meets its contract: all bytes pass where those at the start that do are the whole.
--- Assumes nothing.
+-- `fields::numbers::is_text` meets its contract: the bounds are those of a text byte. Assumes nothing.
 use borrow.Author.Needs.{needs}
 use Rattle.metafile.specs.Fields.{isText}
-use Rattle.fields.proofs.Prefix.{whole-is}
 use Rattle.fields.proofs.numbers.is_text.Statement.{statement}
 use Rattle.fields.proofs.numbers.is_text.Tie as tie
 
-leading-requires : tie.Need-leading-requires
-leading-requires c κs = search needs
+within-requires : tie.Need-within-requires
+within-requires c κs = search needs
 
 returns : tie.Need-returns
 unfolding isText
-returns c = whole-is _ _ _ (c .leading .ensures)
+returns c = c .within .ensures
 
 pub is-text-spec : {M : Type 1} → statement M
-is-text-spec = tie.close (tie.spec leading-requires returns)
+is-text-spec = tie.close (tie.spec within-requires returns)

@@ -12,22 +12,25 @@ use Rattle.lines.proofs.judge.value_fault.Tie as tie
 line-at-requires : tie.Need-line-at-requires
 line-at-requires c κs = search needs
 
+cast-width : tie.Need-cast-width
+cast-width c = search needs
+
 enum-told : tie.Need-enum-told
 enum-told c = search needs
 
 nines-requires : tie.Need-nines-requires
-nines-requires c κs = told-number (c .before .before .before .before .args .i) (omega arith) (c .before .before .line-at .result) (c .before .before .line-at .ensures) (c .enum-told .given .1)
+nines-requires c κs = told-number (c .before .before .before .before .before .args .i) (omega arith) (c .before .before .before .line-at .result) (c .before .before .before .line-at .ensures) (c .enum-told .given .1)
 
 count-fault-requires : tie.Need-count-fault-requires
 count-fault-requires c κs =
-    omega (arith, told-number (c .before .before .before .before .before .args .i) (omega arith) (c .before .before .before .line-at .result) (c .before .before .before .line-at .ensures) (c .before .enum-told .given .1))
+    omega (arith, told-number (c .before .before .before .before .before .before .args .i) (omega arith) (c .before .before .before .before .line-at .result) (c .before .before .before .before .line-at .ensures) (c .before .enum-told .given .1))
 
 enum-told-2 : tie.Need-enum-told-2
 enum-told-2 c = search needs
 
 count-fault-requires-2 : tie.Need-count-fault-requires-2
 count-fault-requires-2 c κs =
-    omega (arith, told-checksum (c .before .before .before .before .args .i) (omega arith) (c .before .before .line-at .result) (c .before .before .line-at .ensures) (c .enum-told2 .given .1))
+    omega (arith, told-checksum (c .before .before .before .before .before .args .i) (omega arith) (c .before .before .before .line-at .result) (c .before .before .before .line-at .ensures) (c .enum-told2 .given .1))
 
 enum-told-3 : tie.Need-enum-told-3
 enum-told-3 c = search needs
@@ -86,63 +89,64 @@ strategy-fault-requires c κs = search needs
 returns : tie.Need-returns
 unfolding kindOf kindFault
 returns c =
-    rw (kind-told (c .before .before .before .before .before .before .args .i) (omega arith) (c .before .before .before .before .line-at .result) (c .before .before .before .before .line-at .ensures) Number (c .before .before .enum-told .given .1), ← c .before .nines .ensures) (c .count-fault .ensures)
+    rw (kind-told (c .before .before .before .before .before .before .before .args .i) (omega arith) (c .before .before .before .before .before .line-at .result) (c .before .before .before .before .before .line-at .ensures) Number (c .before .before .enum-told .given .1), ← c .before .nines .ensures) (c .count-fault .ensures)
 
 returns-2 : tie.Need-returns-2
 unfolding kindOf kindFault
 returns-2 c =
-    rw (kind-told (c .before .before .before .before .before .args .i) (omega arith) (c .before .before .before .line-at .result) (c .before .before .before .line-at .ensures) Checksum (c .before .enum-told2 .given .1)) (c .count-fault2 .ensures)
+    rw (kind-told (c .before .before .before .before .before .before .args .i) (omega arith) (c .before .before .before .before .line-at .result) (c .before .before .before .before .line-at .ensures) Checksum (c .before .enum-told2 .given .1)) (c .count-fault2 .ensures)
 
 returns-3 : tie.Need-returns-3
 unfolding kindOf kindFault
 returns-3 c =
-    rw (kind-told (c .before .before .before .before .before .args .i) (omega arith) (c .before .before .before .line-at .result) (c .before .before .before .line-at .ensures) Text (c .before .enum-told3 .given .1)) (c .text-fault .ensures)
+    rw (kind-told (c .before .before .before .before .before .before .args .i) (omega arith) (c .before .before .before .before .line-at .result) (c .before .before .before .before .line-at .ensures) Text (c .before .enum-told3 .given .1)) (c .text-fault .ensures)
 
 returns-4 : tie.Need-returns-4
 unfolding kindOf kindFault
 returns-4 c =
-    rw (kind-told (c .before .before .before .before .before .args .i) (omega arith) (c .before .before .before .line-at .result) (c .before .before .before .line-at .ensures) Date (c .before .enum-told4 .given .1)) (c .date-fault .ensures)
+    rw (kind-told (c .before .before .before .before .before .before .args .i) (omega arith) (c .before .before .before .before .line-at .result) (c .before .before .before .before .line-at .ensures) Date (c .before .enum-told4 .given .1)) (c .date-fault .ensures)
 
 returns-5 : tie.Need-returns-5
 unfolding kindOf kindFault
 returns-5 c =
-    rw (kind-told (c .before .before .before .before .before .args .i) (omega arith) (c .before .before .before .line-at .result) (c .before .before .before .line-at .ensures) Offset (c .before .enum-told5 .given .1)) (c .offset-fault .ensures)
+    rw (kind-told (c .before .before .before .before .before .before .args .i) (omega arith) (c .before .before .before .before .line-at .result) (c .before .before .before .before .line-at .ensures) Offset (c .before .enum-told5 .given .1)) (c .offset-fault .ensures)
 
 returns-6 : tie.Need-returns-6
 unfolding kindOf kindFault
 returns-6 c =
-    rw (kind-told (c .before .before .before .before .before .args .i) (omega arith) (c .before .before .before .line-at .result) (c .before .before .before .line-at .ensures) Serial (c .before .enum-told6 .given .1)) (c .serial-fault .ensures)
+    rw (kind-told (c .before .before .before .before .before .before .args .i) (omega arith) (c .before .before .before .before .line-at .result) (c .before .before .before .before .line-at .ensures) Serial (c .before .enum-told6 .given .1)) (c .serial-fault .ensures)
 
 returns-7 : tie.Need-returns-7
 unfolding kindOf kindFault genericType wordNo
 returns-7 c =
-    rw (kind-told (c .before .before .before .before .before .args .i) (omega arith) (c .before .before .before .line-at .result) (c .before .before .before .line-at .ensures) Generic (c .before .enum-told7 .given .1)) (c .word-fault .ensures)
+    rw (kind-told (c .before .before .before .before .before .before .args .i) (omega arith) (c .before .before .before .before .line-at .result) (c .before .before .before .before .line-at .ensures) Generic (c .before .enum-told7 .given .1)) (c .word-fault .ensures)
 
 returns-8 : tie.Need-returns-8
 unfolding kindOf kindFault timeSynchType wordNo
 returns-8 c =
-    rw (kind-told (c .before .before .before .before .before .args .i) (omega arith) (c .before .before .before .line-at .result) (c .before .before .before .line-at .ensures) Synch (c .before .enum-told8 .given .1)) (c .word-fault2 .ensures)
+    rw (kind-told (c .before .before .before .before .before .before .args .i) (omega arith) (c .before .before .before .before .line-at .result) (c .before .before .before .before .line-at .ensures) Synch (c .before .enum-told8 .given .1)) (c .word-fault2 .ensures)
 
 returns-9 : tie.Need-returns-9
 unfolding kindOf
 returns-9 c =
-    rw (kind-told (c .before .before .before .before .before .args .i) (omega arith) (c .before .before .before .line-at .result) (c .before .before .before .line-at .ensures) Standard (c .before .enum-told9 .given .1)) (c .standard-fault .ensures)
+    rw (kind-told (c .before .before .before .before .before .before .args .i) (omega arith) (c .before .before .before .before .line-at .result) (c .before .before .before .before .line-at .ensures) Standard (c .before .enum-told9 .given .1)) (c .standard-fault .ensures)
 
 returns-10 : tie.Need-returns-10
 unfolding kindOf
 returns-10 c =
-    rw (kind-told (c .before .before .before .before .before .args .i) (omega arith) (c .before .before .before .line-at .result) (c .before .before .before .line-at .ensures) Event (c .before .enum-told10 .given .1)) (c .event-fault .ensures)
+    rw (kind-told (c .before .before .before .before .before .before .args .i) (omega arith) (c .before .before .before .before .line-at .result) (c .before .before .before .before .line-at .ensures) Event (c .before .enum-told10 .given .1)) (c .event-fault .ensures)
 
 returns-11 : tie.Need-returns-11
 unfolding kindOf
 returns-11 c =
-    rw (kind-told (c .before .before .before .before .before .args .i) (omega arith) (c .before .before .before .line-at .result) (c .before .before .before .line-at .ensures) Strategy (c .before .enum-told11 .given .1)) (c .strategy-fault .ensures)
+    rw (kind-told (c .before .before .before .before .before .before .args .i) (omega arith) (c .before .before .before .before .line-at .result) (c .before .before .before .before .line-at .ensures) Strategy (c .before .enum-told11 .given .1)) (c .strategy-fault .ensures)
 
 pub value-fault-spec : {M : Type 1} → statement M
 value-fault-spec =
     tie.close
     (tie.spec
     line-at-requires
+    cast-width
     enum-told
     nines-requires
     count-fault-requires

@@ -17,6 +17,9 @@ returns c =
 line-at-requires : tie.Need-line-at-requires
 line-at-requires c κs = search needs
 
+cast-long : tie.Need-cast-long
+cast-long c = search needs
+
 add-read-field : tie.Need-add-read-field
 add-read-field c =
     let args = c .before .before .before .before .before .args in
@@ -43,6 +46,7 @@ opened-fault-spec =
     read-field-requires
     returns
     line-at-requires
+    cast-long
     add-read-field
     read-field-requires-2
     returns-2)

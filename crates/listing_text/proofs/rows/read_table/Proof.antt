@@ -50,7 +50,7 @@ use Rattle.metafile.specs.declared.Row.{Row}
 use Rattle.listing_text.specs.Text.{tableRows}
 use Rattle.listing_text.specs.declared.rows.Table.{Table}
 use Rattle.metafile.specs.declared.ReadAnswer.{ReadAnswer}
-use Rattle.listing_text.proofs.LendArray.{lends-array, array-back}
+use Rattle.read.proofs.LendArray.{lends-array, array-back}
 use Rattle.metafile.proofs.Row as T
 use Rattle.metafile.proofs.Row.Laws as T′
 use Rattle.listing_text.proofs.rows.Table as B

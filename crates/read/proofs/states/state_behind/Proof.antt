@@ -11,25 +11,32 @@ no-row-requires c κs = search needs
 step-requires : tie.Need-step-requires
 step-requires c κs = search needs
 
+same-length : tie.Need-same-length
+same-length c = search needs
+
 returns : tie.Need-returns
 returns c =
-    let k = c .before .before .before .before .before in
-    behind-none (k .pre) (k .args .room) (c .before .before .step .ensures) (c .if1 .taken) (c .before .before .before .no-row .ensures)
+    let k = c .before .before .before .before .before .before .before .before .before in
+    let s = c .before .before .before .before .step in
+    (behind-none (k .pre .0) (k .args .room) (s .ensures .0) (c .if1 .taken) (c .before .before .before .before .before .before .no-row .ensures), s .ensures .1)
+
+same-length-2 : tie.Need-same-length-2
+same-length-2 c = search needs
 
 returns-2 : tie.Need-returns-2
 returns-2 c =
-    let k = c .before .before .before .before .before .before in
-    behind-full (k .pre) (k .args .room) (c .before .before .before .step .ensures) (c .before .if1 .left) (c .if2 .taken)
-    (c .before .before .before .before .no-row .ensures)
+    let k = c .before .before .before .before .before .before .before .before .before .before in
+    let s = c .before .before .before .before .before .step in
+    (behind-full (k .pre .0) (k .args .room) (s .ensures .0) (c .before .if1 .left) (c .if2 .taken) (c .before .before .before .before .before .before .before .no-row .ensures), s .ensures .1)
 
 add-end : tie.Need-add-end
-add-end c = omega (arith, mark-end (c .before .before .before .before .before .before .before .before .pre))
+add-end c = omega (arith, mark-end (c .before .before .before .before .before .before .before .before .before .before .before .before .pre .0))
 
 sub-row : tie.Need-sub-row
-sub-row c = place-inside (c .before .before .before .before .before .before .before .before .pre)
+sub-row c = place-inside (c .before .before .before .before .before .before .before .before .before .before .before .before .pre .0)
 
 part-row-start : tie.Need-part-row-start
-part-row-start c = omega (arith, place-inside (c .before .before .before .before .before .before .before .before .pre))
+part-row-start c = omega (arith, place-inside (c .before .before .before .before .before .before .before .before .before .before .before .before .pre .0))
 
 part-row-end : tie.Need-part-row-end
 part-row-end c = search needs
@@ -41,19 +48,23 @@ part-row-start-2 : tie.Need-part-row-start-2
 part-row-start-2 c = search needs
 
 part-row-end-2 : tie.Need-part-row-end-2
-part-row-end-2 c = omega (arith, mark-end (c .before .before .before .before .before .before .before .before .before .pre))
+part-row-end-2 c = omega (arith, mark-end (c .before .before .before .before .before .before .before .before .before .before .before .before .before .pre .0))
 
 row-requires : tie.Need-row-requires
 row-requires c κs =
-    let k = c .before .before .before .before .before .before .before .before .before .before in
+    let k = c .before .before .before .before .before .before .before .before .before .before .before .before .before .before in
     let e = c .before .before .before .before .before in
-    (behind-layout (k .pre) (k .args .room) (e .before .before .step .ensures) (e .if1 .left), omega (arith, part-long (k .pre)))
+    (behind-layout (k .pre .0) (k .args .room) (e .before .before .before .before .step .ensures .0) (e .if1 .left), omega (arith, part-long (k .pre .0)))
+
+same-length-3 : tie.Need-same-length-3
+same-length-3 c = search needs
 
 returns-3 : tie.Need-returns-3
 returns-3 c =
-    let k = c .before .before .before .before .before .before .before .before .before .before .before in
+    let k = c .before .before .before .before .before .before .before .before .before .before .before .before .before .before .before in
     let e = c .before .before .before .before .before in
-    behind-row (k .pre) (k .args .room) (e .before .before .before .step .ensures) (e .before .if1 .left) (e .if2 .left) (c .row .ensures)
+    let s = e .before .before .before .before .before .step in
+    (behind-row (k .pre .0) (k .args .room) (s .ensures .0) (e .before .if1 .left) (e .if2 .left) (c .row .ensures), s .ensures .1)
 
 pub state-behind-spec : {M : Type 1} → statement M
 state-behind-spec =
@@ -61,7 +72,9 @@ state-behind-spec =
     (tie.spec
     no-row-requires
     step-requires
+    same-length
     returns
+    same-length-2
     returns-2
     add-end
     sub-row
@@ -71,4 +84,5 @@ state-behind-spec =
     part-row-start-2
     part-row-end-2
     row-requires
+    same-length-3
     returns-3)

@@ -1,0 +1,34 @@
+// What the calls answer to C, in the order of include/ads.h. Beside a number that is not 0 all else is 0 and false.
+
+// ads_written: the length of what was written.
+#[repr(C)]
+pub struct Written {
+    pub length: usize,
+    pub number: u8,
+}
+
+// ads_parent_answer: the row, if one was found, and whether the sub-formats agree.
+#[repr(C)]
+pub struct Parent {
+    pub row: usize,
+    pub found: bool,
+    pub agree: bool,
+    pub number: u8,
+}
+
+// ads_ends: the ends of the three writes.
+#[repr(C)]
+pub struct Ends {
+    pub first: usize,
+    pub second: usize,
+    pub third: usize,
+    pub number: u8,
+}
+
+// ads_part: a part of the file, by its place and its bytes.
+#[repr(C)]
+pub struct Part {
+    pub place: usize,
+    pub bytes: usize,
+    pub number: u8,
+}

@@ -1,0 +1,193 @@
+// The calls. The answer of each is equated with the defined value that the call's own contract has, with the final bytes
+// of what was lent; `alone` says that beside a number nothing else is answered.
+ghost use mathlib.Core.Path.{_≡_};
+ghost use mathlib.Core.Bool.{cond};
+ghost use Rattle.metafile.specs.Bytes.{choose};
+ghost use Rattle.metafile.specs.Begin.{begin};
+ghost use Rattle.metafile.specs.Append.{append};
+ghost use Rattle.metafile.specs.Calls.{read, parent, contents, gather};
+ghost use Rattle.begin.specs.Given.{givenOf as begun};
+ghost use Rattle.append.specs.Given.{givenOf};
+ghost use Rattle.read.specs.State.{readOutcome};
+ghost use Rattle.listing_text.specs.Text.{listingOutcome};
+ghost use Rattle.ads.specs.Answers.{outcome, writtenAnswer, writtenAlone, parentAnswer, parentAlone, endsAnswer, endsAlone, partAlone, partOf, partOutcome};
+use crate::answers::Ends;
+use crate::answers::Parent;
+use crate::answers::Part;
+use crate::answers::Written;
+use listing_text::ListingAnswer;
+use metafile::AppendAnswer;
+use metafile::BeginAnswer;
+use metafile::Description;
+use metafile::GatherAnswer;
+use metafile::ParentAnswer;
+use metafile::ReadAnswer;
+use metafile::Row;
+
+// 2^30: a longer file is refused, 11.
+const LIMIT: usize = 1073741824;
+
+#[no_mangle]
+pub extern "C" fn ads_begin(
+    strategy: &[u8; 3],
+    mark: &[u8],
+    serial: &[u8; 38],
+    recorded: &[u8; 8],
+    recorder: &[u8],
+    written: &[u8; 8],
+    writer: &[u8],
+    buffer: &mut [u8],
+) -> Written
+    ensures answer { λ r. ⌜ outcome (writtenAnswer r) (now (buffer .exit)) ≡ begin (begun (now (strategy .entry)) (now (mark .entry)) (now (serial .entry)) (now (recorded .entry)) (now (recorder .entry)) (now (written .entry)) (now (writer .entry))) (now (buffer .entry)) ⌝ }
+    ensures alone { λ r. ⌜ r ≡ choose (r .number) r writtenAlone ⌝ }
+{
+    let answer = begin::begin(
+        *strategy,
+        mark,
+        *serial,
+        *recorded,
+        recorder,
+        *written,
+        writer,
+        buffer,
+    );
+    match answer {
+        BeginAnswer::Written(length) => Written { length, number: 0 },
+        BeginAnswer::Refused(number) => Written { length: 0, number },
+    }
+}
+
+// The lent table is a slice of rows, passed on as it is.
+#[no_mangle]
+pub extern "C" fn ads_read(file: &[u8], rows: &mut [Row]) -> ReadAnswer
+    ensures answer { λ r. ⌜ readOutcome r (now (rows .exit)) ≡ read (now (file .entry)) (now (rows .entry)) ⌝ }
+{
+    read::read(file, rows)
+}
+
+// "or missing": no row beside a number, 0 included.
+fn no_parent(number: u8) -> Parent
+    ensures { λ r. ⌜ r ≡ parentAlone number ⌝ }
+{
+    Parent {
+        row: 0,
+        found: false,
+        agree: false,
+        number,
+    }
+}
+
+#[no_mangle]
+pub extern "C" fn ads_parent(file: &[u8], row: usize, dependency: usize) -> Parent
+    ensures answer { λ r. ⌜ parentAnswer r ≡ parent (now (file .entry)) row dependency ⌝ }
+    ensures alone { λ r. ⌜ r ≡ choose (r .number) (cond (r .found) r (parentAlone 0)) parentAlone ⌝ }
+{
+    let answer = parent::parent(file, row, dependency);
+    match answer {
+        ParentAnswer::Found(row, agree) => Parent {
+            row,
+            found: true,
+            agree,
+            number: 0,
+        },
+        ParentAnswer::Missing => no_parent(0),
+        ParentAnswer::Refused(number) => no_parent(number),
+    }
+}
+
+#[no_mangle]
+pub extern "C" fn ads_append(
+    buffer: &mut [u8],
+    length: usize,
+    description: Description,
+    parents: &[usize],
+    specific: &[u8],
+    contents: &[u8],
+    open: bool,
+) -> Ends
+    ensures answer { λ r. ⌜ outcome (endsAnswer r) (now (buffer .exit)) ≡ append (now (buffer .entry)) length (givenOf description (now (parents .entry)) (now (specific .entry)) (now (contents .entry)) «open») ⌝ }
+    ensures alone { λ r. ⌜ r ≡ choose (r .number) r endsAlone ⌝ }
+{
+    let answer = append::append(
+        buffer,
+        length,
+        description,
+        parents,
+        specific,
+        contents,
+        open,
+    );
+    match answer {
+        AppendAnswer::Ends(first, second, third) => Ends {
+            first,
+            second,
+            third,
+            number: 0,
+        },
+        AppendAnswer::Refused(number) => Ends {
+            first: 0,
+            second: 0,
+            third: 0,
+            number,
+        },
+    }
+}
+
+// "refused, an empty part and the number"
+fn no_part(number: u8) -> Part
+    ensures { λ r. ⌜ r ≡ partAlone number ⌝ }
+{
+    Part {
+        place: 0,
+        bytes: 0,
+        number,
+    }
+}
+
+// An exported function can't return a part of the file, so it answers the part's place and bytes. Tests 11, then 13.
+#[no_mangle]
+pub extern "C" fn ads_contents(file: &[u8], row: usize) -> Part
+    ensures answer { λ r. ⌜ partOutcome (now (file .entry)) r ≡ contents (now (file .entry)) row ⌝ }
+    ensures names { λ r. ⌜ r ≡ partOf (now (file .entry)) row ⌝ }
+{
+    if LIMIT < file.len() {
+        return no_part(11);
+    }
+    let h = walk::header(file);
+    if h.number != 0 {
+        return no_part(13);
+    }
+    let found = walk::row_at(file, h, row);
+    if !found.there {
+        return no_part(13);
+    }
+    Part {
+        place: found.place + found.layout.contents,
+        bytes: found.layout.bytes,
+        number: 0,
+    }
+}
+
+#[no_mangle]
+pub extern "C" fn ads_gather(file: &[u8], row: usize, id: &[u8], buffer: &mut [u8]) -> Written
+    ensures answer { λ r. ⌜ outcome (writtenAnswer r) (now (buffer .exit)) ≡ gather (now (file .entry)) row (now (id .entry)) (now (buffer .entry)) ⌝ }
+    ensures alone { λ r. ⌜ r ≡ choose (r .number) r writtenAlone ⌝ }
+{
+    let answer = gather::gather(file, row, id, buffer);
+    match answer {
+        GatherAnswer::Joined(length) => Written { length, number: 0 },
+        GatherAnswer::Refused(number) => Written { length: 0, number },
+    }
+}
+
+#[no_mangle]
+pub extern "C" fn ads_listing(input: &[u8], buffer: &mut [u8]) -> Written
+    ensures answer { λ r. ⌜ outcome (writtenAnswer r) (now (buffer .exit)) ≡ listingOutcome (now (input .entry)) (now (buffer .entry)) ⌝ }
+    ensures alone { λ r. ⌜ r ≡ choose (r .number) r writtenAlone ⌝ }
+{
+    let answer = listing_text::listing(input, buffer);
+    match answer {
+        ListingAnswer::Written(length) => Written { length, number: 0 },
+        ListingAnswer::Refused(number) => Written { length: 0, number },
+    }
+}

@@ -1,0 +1,192 @@
+/* ads.h: SEG-UKOOA ADS metafiles 1.00, the table of chunks. Link target/staticlib/libads.a (`rt staticlib ads`; x86-64
+   Linux). Each function is proved to give what its contract in crates/ads/src says, on any bytes.
+
+   Rules for every signature. The caller lends every buffer, for the time of the call: no call allocates, keeps a pointer,
+   prints, or changes what it is lent by a pointer to const. A pointer with a length is to that many bytes (or rows, or
+   row numbers), all of them set, and is not null, also where the length is 0; `const uint8_t word[3]` is a pointer to just
+   3 bytes. What a call may write must not overlap anything else that is lent to it. Apart from that a call takes any bytes
+   and any numbers. It answers a struct by value. Its `number` is 0, or the number of a refusal (the table below); then the
+   other values are 0 and false and what was lent is untouched. Only ads_read answers its values and rows beside a number.
+   Rows and dependencies count from 0, places from the file's first byte. Texts have no zero byte behind them. A file is
+   lent as a whole, in memory; reading it from disk and writing it there is the caller's. A call may take up to 1 MiB of
+   stack. */
+#ifndef ADS_H
+#define ADS_H
+
+#include <stdbool.h>
+#include <stddef.h>
+#include <stdint.h>
+
+#ifdef __cplusplus
+extern "C" {
+#endif
+
+/* The numbers. 1 to 9 are faults of the bytes at ads_read's stop, and of what ads_begin and ads_append were given. */
+enum {
+    ADS_TITLE = 1,          /* read: the first 65 bytes don't match */
+    ADS_TAPE = 2,           /* read, begin: NUL with a mark of no bytes, the tape form */
+    ADS_MARK_MINI = 3,      /* read, begin: the mark begins "MiniChunk=" */
+    ADS_CUT = 4,            /* read: the bytes end too soon; the mark of an open chunk isn't found */
+    ADS_DIFFERS = 5,        /* read: a label, LF, mark or listed word differs */
+    ADS_FORM = 6,           /* read, begin, append: a field is out of form or range; begin, append: also a wrong listed
+                               word, an over-long text or a mark over 999 bytes */
+    ADS_LENGTH = 7,         /* read: a length disagrees with what it measures, or the type count is outside 1 to 64 */
+    ADS_SHORT_ID = 8,       /* read: a short ID is there twice or undeclared, or there is no mini-chunk */
+    ADS_REPEATED = 9,       /* read: a whole chunk's serial number is already in a row; append: the one given is */
+    ADS_ROWS_FULL = 10,     /* read: another whole chunk with a new serial number, and no row left */
+    ADS_LIMIT = 11,         /* every call: a lent byte buffer over 2^30, or append's length over the buffer's */
+    ADS_NOT_CLEAN = 12,     /* append: the file doesn't read to its end with number 0 */
+    ADS_NO_ROW = 13,        /* parent, contents, gather: no such row; append: no such parent, repeated, or over 16 */
+    ADS_NO_DEPENDENCY = 14, /* parent: no such dependency; gather: not a MultiChunk, or the ID is undeclared */
+    ADS_MARK_ZERO = 15,     /* begin, append: the mark has a zero byte */
+    ADS_OPEN = 16,          /* append: open under LLC or for BIN, or the mark is first found before the data's end */
+    ADS_MULTICHUNK = 17,    /* append: of a MultiChunk */
+    ADS_NO_ROOM = 18        /* begin, append, gather, listing: the lent buffer is too short for the result */
+};
+
+/* ---- what is answered */
+
+/* One chunk of the table: 104 bytes, aligned to 8. */
+typedef struct ads_row {
+    uint8_t serial[38];  /*  0: serial number */
+    size_t place;        /* 40: where the chunk begins */
+    size_t header;       /* 48: bytes of its header */
+    size_t contents;     /* 56: contents place, after the content length line; for a MultiChunk, its first line */
+    size_t bytes;        /* 64: contents bytes */
+    size_t end;          /* 72: where the chunk ends, its closing included */
+    size_t dependencies; /* 80: how many */
+    int64_t offset;      /* 88: time offset in units of 10^-10 second; 0 under SPE or NUL standard */
+    bool multichunk;     /* 96: it is a MultiChunk */
+    bool good;           /* 97: its sum is good; 6 bytes of padding follow */
+} ads_row;
+
+typedef struct ads_reading {
+    size_t count;   /* rows written to the table */
+    size_t stop;    /* end of the last chunk in a row, else of the header; 0 if that isn't whole */
+    bool good;      /* header sum good; never where the header isn't whole */
+    uint8_t number; /* 0 to 11. The file is clean if it is 0 and stop is the file's length */
+} ads_reading;
+
+typedef struct ads_written {
+    size_t length; /* bytes written at the start of the buffer */
+    uint8_t number;
+} ads_written;
+
+typedef struct ads_parent_answer {
+    size_t row;  /* the row with the dependency's serial number; 0 where none is found */
+    bool found;  /* there is such a row; else the parent is missing */
+    bool agree;  /* the dependency names that row's own sub-format */
+    uint8_t number;
+} ads_parent_answer;
+
+/* The ends of append's three writes: header with content length line, data, closing. */
+typedef struct ads_ends {
+    size_t first, second, third;
+    uint8_t number;
+} ads_ends;
+
+/* A part of the file: `bytes` bytes from file + place on. */
+typedef struct ads_part {
+    size_t place, bytes;
+    uint8_t number;
+} ads_part;
+
+/* ---- the file */
+
+/* Writes a file header at the start of the buffer: 319 bytes and twice the mark. strategy is "LLC" or "NUL". The serial
+   number has 38 bytes, a date 8 ("20240229"), an agent at most 32. Tests 11, 6, 2, 3, 15, 18. */
+ads_written ads_begin(const uint8_t strategy[3], const uint8_t *mark, size_t mark_length, const uint8_t serial[38],
+                      const uint8_t recorded[8], const uint8_t *recorder, size_t recorder_length,
+                      const uint8_t written[8], const uint8_t *writer, size_t writer_length,
+                      uint8_t *buffer, size_t buffer_length);
+
+/* Reads the file into a table of `room` rows. Rows past the count are not written. It answers its values whatever the
+   number is: the rows before a fault, or before the table was full, hold. Given 11: count 0, stop 0, not good. */
+ads_reading ads_read(const uint8_t *file, size_t length, ads_row *rows, size_t room);
+
+/* The calls below judge the file by a reading of their own with rows enough: rows before a fault count. */
+
+/* The parent that a row's dependency names. Tests 11, 13, 14. */
+ads_parent_answer ads_parent(const uint8_t *file, size_t length, size_t row, size_t dependency);
+
+/* The part of the file that the row names: its contents. Tests 11, 13. */
+ads_part ads_contents(const uint8_t *file, size_t length, size_t row);
+
+/* Joins, in order, the data of a MultiChunk's mini-chunks under one short ID (at most 10 bytes) into the buffer. A declared
+   ID without mini-chunks gives length 0. Bytes past the length keep their state. Tests 11, 13, 14, 18. */
+ads_written ads_gather(const uint8_t *file, size_t length, size_t row, const uint8_t *id, size_t id_length,
+                       uint8_t *buffer, size_t buffer_length);
+
+/* Writes the listing of the file's table as text: header sum, count, a line for each row, stop and number. An input over
+   65,536 bytes is no refusal: its text is "end 0 11" and LF. 10,240 bytes are enough for any text. Tests 11 (of the buffer
+   alone), 18. */
+ads_written ads_listing(const uint8_t *input, size_t length, uint8_t *buffer, size_t buffer_length);
+
+/* ---- append */
+
+/* The description of a chunk to append. Make one by ads_description_new and the functions below and don't look inside:
+   a text is kept as its first bytes and the length that was given. */
+typedef struct ads_text256 {
+    uint8_t bytes[256];
+    size_t given;
+} ads_text256;
+
+typedef struct ads_text32 {
+    uint8_t bytes[32];
+    size_t given;
+} ads_text32;
+
+typedef struct ads_description {
+    ads_text256 subformat;
+    uint8_t generic[3], synch[3], standard[3], alternate[38], offset[16], event[3], linked[38], serial[38], recorded[8];
+    ads_text32 recorder;
+    uint8_t written[8];
+    ads_text32 writer;
+} ads_description;
+
+/* Each function takes a description by value and hands it back with one field set. Nothing is judged here: a text of any
+   length is taken, and ads_append refuses what is out of form, over-long or was never set (6). */
+ads_description ads_description_new(void);
+
+/* SubFormat_ID, at most 256 bytes. */
+ads_description ads_sub_format(ads_description d, const uint8_t *text, size_t length);
+
+/* Generic_Type: "BIN" or "TXT". */
+ads_description ads_generic_type(ads_description d, const uint8_t word[3]);
+
+/* Chunk_Time_Synch_Type: "GEN" or "SPE". */
+ads_description ads_synch_type(ads_description d, const uint8_t word[3]);
+
+/* Chunk_Time_Standard: "UTC" or "NUL"; or ALT with its serial number. The later call of the two holds. */
+ads_description ads_time_standard(ads_description d, const uint8_t word[3]);
+ads_description ads_alternate_standard(ads_description d, const uint8_t serial[38]);
+
+/* Chunk_Time_Offset, as it stands in the file: sign, hours, minutes, seconds, such as "+0000      8.035". */
+ads_description ads_time_offset(ads_description d, const uint8_t bytes[16]);
+
+/* Chunk_Event_Synch: "NUL"; or SLV, or MAS, with its serial number. The last call of the three holds. */
+ads_description ads_event_synch(ads_description d, const uint8_t word[3]);
+ads_description ads_slave_event(ads_description d, const uint8_t serial[38]);
+ads_description ads_master_event(ads_description d, const uint8_t serial[38]);
+
+/* Chunk_Serial_Number. */
+ads_description ads_serial_number(ads_description d, const uint8_t serial[38]);
+
+/* Recording date and agent, writing date and agent; an agent has at most 32 bytes. */
+ads_description ads_recording(ads_description d, const uint8_t date[8], const uint8_t *agent, size_t length);
+ads_description ads_writing(ads_description d, const uint8_t date[8], const uint8_t *agent, size_t length);
+
+/* Appends a chunk to the file that the buffer's first `length` bytes hold. parents are rows of that file, at most 16, none
+   twice; specific data and contents are any bytes; open leaves the content length 0 (NUL and TXT only). Bytes past the
+   third end keep their state. Tests 11, 12, 6, 17, 13, 9, 15, 16, 18.
+   Then write the buffer's bytes from the old length to the first end, from there to the second, and from there to the
+   third, each on disk before the next: after a power cut at any byte the file reads with its old rows, or whole. */
+ads_ends ads_append(uint8_t *buffer, size_t buffer_length, size_t length, ads_description description,
+                    const size_t *parents, size_t parent_count, const uint8_t *specific, size_t specific_length,
+                    const uint8_t *contents, size_t contents_length, bool open);
+
+#ifdef __cplusplus
+}
+#endif
+
+#endif
