@@ -24,20 +24,13 @@ use Rattle.metafile.specs.Fields.{sameSerial, known}
 use Rattle.metafile.specs.Append.{isIn}
 use Rattle.laws.proofs.First.{test, untrue, and-both, both-and, or-true, or-left, or-right}
 use Rattle.laws.proofs.Lists.{same-eq, all-weaken}
-use Rattle.index.specs.Index.{joinedBytes, slotFrom, slotOf, lookedUp, hasEmpty, entered, reached, inFile, serialsAt, slots, Holds}
+use Rattle.index.specs.Index.{slotOf, lookedUp, hasEmpty, entered, reached, inFile, serialsAt, slots, Holds}
 
 -- ---- slots
 
-from-below : (n at : ℕ) (x : List ℕ) → at < 196613 → slotFrom n at x < 196613
-unfolding slotFrom
-from-below zero at x h = h
-from-below (suc n) at x h =
-    let j = joinedBytes at (part 0 5 x) in
-    from-below n (j % 196613) (drop 5 x) (mod-lt j (omega arith))
-
 pub slot-below : (x : List ℕ) → slotOf x < 196613
 unfolding slotOf
-slot-below x = from-below 7 0 x (omega arith)
+slot-below x = omega arith
 
 pub same-slot : (x y : List ℕ) → sameSerial x y ≡ true → slotOf x ≡ slotOf y
 unfolding sameSerial

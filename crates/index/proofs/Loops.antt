@@ -1,15 +1,16 @@
 -- What the loops of src/lib.rt need of the definitions in specs/Index.
---     slot-next     five bytes more of a serial number; slot-end: all seven times five
+--     mixed-next    five bytes more of a serial number; mixed-end: all seven times five; square-small: its square fits
 --     inside-at     an entry that is not 0 has 38 bytes of the file
 --     compared      the comparison with the 38 bytes at a place; bytes-there: 38 bytes stand there
 --     looked-..     the search among the entries: one entry passed, an empty slot, the serial number, the end
 --     Free          no empty slot stands before a place of the entries
 --     free-..       such a place where the loop begins, one entry on; what entering does there, at the end
 -- Assumes nothing.
-use Prim.Native.Nat.{ℕ, zero, suc, _+_, _-_, _%_, _≤_, _<_}
+use Prim.Native.Nat.{_*_, ℕ, zero, suc, _+_, _-_, _%_, _≤_, _<_}
 use mathlib.Core.Bool.{Bool, true, false}
 use mathlib.Core.Path.{_≡_, refl, sym, _∙_}
 use mathlib.Core.List.{List, [], _∷_, _++_, append-nil}
+use native.Mathlib.Nat.{le-of-lt, mul-le-mul-right}
 use native.Mathlib.Omega.{arith}
 use native.Mathlib.Numerals.{add-one}
 use lib.ListN.{length, take, drop, getD, set, length-drop, drop-of-length-le}
@@ -19,7 +20,7 @@ use Rattle.metafile.specs.Bytes.{part, all, isZero}
 use Rattle.metafile.specs.Fields.{sameSerial}
 use Rattle.laws.proofs.First.{and-both}
 use Rattle.laws.proofs.Loops.{part-drop}
-use Rattle.index.specs.Index.{joinedBytes, slotFrom, slotOf, lookedUp, hasEmpty, entered, inFile}
+use Rattle.index.specs.Index.{joinedBytes, mixedFrom, lookedUp, hasEmpty, entered, inFile}
 
 -- ---- the slot
 
@@ -37,21 +38,24 @@ five x i h =
       one x (i + 4) (i + 5) 0 (omega arith) (omega arith),
     )
 
-from-suc : (n at : ℕ) (x : List ℕ) → 0 < n → slotFrom n at x ≡ slotFrom (n - 1) (joinedBytes at (part 0 5 x) % 196613) (drop 5 x)
-unfolding slotFrom
-from-suc zero at x h = absurd (omega arith)
-from-suc (suc n) at x h =
+from-suc : (n m : ℕ) (x : List ℕ) → 0 < n → mixedFrom n m x ≡ mixedFrom (n - 1) ((m * 48271 + joinedBytes 0 (part 0 5 x)) % 2147483647) (drop 5 x)
+unfolding mixedFrom
+from-suc zero m x h = absurd (omega arith)
+from-suc (suc n) m x h =
     let e : suc n - 1 ≡ n = omega arith in
     rw e
 
-pub slot-next : (x : List ℕ) (n at i r : ℕ) → 0 < n → i + 5 ≤ length x → slotOf x ≡ slotFrom n at (drop i x)
-    → r ≡ joinedBytes at (getD x i 0 ∷ getD x (i + 1) 0 ∷ getD x (i + 2) 0 ∷ getD x (i + 3) 0 ∷ getD x (i + 4) 0 ∷ [])
-    → slotOf x ≡ slotFrom (n - 1) (r % 196613) (drop (i + 5) x)
-slot-next x n at i r h l e q = e ∙ from-suc n at (drop i x) h ∙ rw (five x i l, drop-drop 5 i x, q)
+pub mixed-next : (x : List ℕ) (whole n m i r : ℕ) → 0 < n → i + 5 ≤ length x → whole ≡ mixedFrom n m (drop i x)
+    → r ≡ joinedBytes 0 (getD x i 0 ∷ getD x (i + 1) 0 ∷ getD x (i + 2) 0 ∷ getD x (i + 3) 0 ∷ getD x (i + 4) 0 ∷ [])
+    → whole ≡ mixedFrom (n - 1) ((m * 48271 + r) % 2147483647) (drop (i + 5) x)
+mixed-next x whole n m i r h l e q = e ∙ from-suc n m (drop i x) h ∙ rw (five x i l, drop-drop 5 i x, q)
 
-pub slot-end : (x : List ℕ) (n at i : ℕ) → n ≡ 0 → slotOf x ≡ slotFrom n at (drop i x) → at ≡ slotOf x
-unfolding slotFrom
-slot-end x n at i z e = sym (rw z at e)
+pub mixed-end : (x : List ℕ) (whole n m i : ℕ) → n ≡ 0 → whole ≡ mixedFrom n m (drop i x) → m ≡ whole
+unfolding mixedFrom
+mixed-end x whole n m i z e = sym (rw z at e)
+
+pub square-small : (m : ℕ) → m < 2147483647 → m * m ≤ 2147483647 * m
+square-small m h = mul-le-mul-right m (le-of-lt h)
 
 -- ---- the search
 

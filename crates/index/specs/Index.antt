@@ -13,18 +13,19 @@ use Rattle.metafile.specs.Append.{isIn}
 
 -- ---- the slot
 
--- bytes as one number, the first byte highest
+-- bytes as one number to the base 4093, the first byte highest, behind another number
 unfoldable pub joinedBytes : ℕ → List ℕ → ℕ
 joinedBytes n [] = n
-joinedBytes n (x ∷ xs) = joinedBytes (n * 256 + x) xs
+joinedBytes n (x ∷ xs) = joinedBytes (n * 4093 + x) xs
 
--- n times five bytes, modulo 196613
-unfoldable pub slotFrom : ℕ → ℕ → List ℕ → ℕ
-slotFrom zero slot x = slot
-slotFrom (suc n) slot x = slotFrom n (joinedBytes slot (part 0 5 x) % 196613) (drop 5 x)
+-- n times five bytes, modulo the prime 2^31 - 1
+unfoldable pub mixedFrom : ℕ → ℕ → List ℕ → ℕ
+mixedFrom zero m x = m
+mixedFrom (suc n) m x = mixedFrom n ((m * 48271 + joinedBytes 0 (part 0 5 x)) % 2147483647) (drop 5 x)
 
+-- its square, so that serial numbers which differ by a count don't stand side by side
 unfoldable pub slotOf : List ℕ → ℕ
-slotOf x = slotFrom 7 0 x
+slotOf x = mixedFrom 7 0 x * mixedFrom 7 0 x % 2147483647 % 196613
 
 -- ---- the entries from a slot on
 

@@ -6,9 +6,9 @@
 ghost use mathlib.Core.Bool.{true};
 ghost use mathlib.Core.List.{[], _∷_};
 ghost use mathlib.Core.Path.{_≡_};
-ghost use Prim.Native.Nat.{_<_};
+ghost use Prim.Native.Nat.{_<_, _^_};
 ghost use Rattle.metafile.specs.Bytes.{all};
-ghost use Rattle.index.specs.Index.{joinedBytes, slotOf, lookedUp, hasEmpty, entered, inFile};
+ghost use Rattle.index.specs.Index.{joinedBytes, mixedFrom, slotOf, lookedUp, hasEmpty, entered, inFile};
 use fields::same_serial;
 use fields::serial_from;
 
@@ -18,37 +18,43 @@ pub const THERE: u8 = 1;
 
 pub const UNKNOWN: u8 = 2;
 
-// A slot and five bytes behind it as one number.
-fn joined(slot: u64, a: u8, b: u8, c: u8, d: u8, e: u8) -> u64
-    requires { ⌜ slot < 196613 ⌝ }
-    ensures { λ r. ⌜ r ≡ joinedBytes slot (a ∷ b ∷ c ∷ d ∷ e ∷ []) ⌝ }
+// Five bytes as one number to the base 4093.
+fn joined(a: u8, b: u8, c: u8, d: u8, e: u8) -> u64
+    ensures { λ r. ⌜ (r ≡ joinedBytes 0 (a ∷ b ∷ c ∷ d ∷ e ∷ [])) × (r < 2 ^ 60) ⌝ }
 {
-    let ab = (slot * 256 + a as u64) * 256 + b as u64;
-    let cd = (ab * 256 + c as u64) * 256 + d as u64;
-    cd * 256 + e as u64
+    let ab = a as u64 * 4093 + b as u64;
+    let cd = (ab * 4093 + c as u64) * 4093 + d as u64;
+    cd * 4093 + e as u64
 }
 
-// The slot at which the search for a serial number begins: its first 35 bytes, five at a time, modulo 196613.
-pub fn slot(serial: [u8; 38]) -> usize
-    ensures { λ r. ⌜ r ≡ slotOf serial ⌝ }
+// The first 35 bytes of a serial number, five at a time, modulo 2^31 - 1.
+fn mixed(serial: [u8; 38]) -> u64
+    ensures { λ r. ⌜ (r ≡ mixedFrom 7 0 serial) × (r < 2147483647) ⌝ }
 {
-    let mut at: u64 = 0;
+    let mut m: u64 = 0;
     let mut i: usize = 0;
     let mut left: usize = 7;
     while 0 < left {
-        at = joined(
-            at,
+        let five = joined(
             serial[i],
             serial[i + 1],
             serial[i + 2],
             serial[i + 3],
             serial[i + 4],
-        )
-            % 196613;
+        );
+        m = (m * 48271 + five) % 2147483647;
         i += 5;
         left -= 1;
     }
-    at as usize
+    m
+}
+
+// The slot at which the search for a serial number begins.
+pub fn slot(serial: [u8; 38]) -> usize
+    ensures { λ r. ⌜ r ≡ slotOf serial ⌝ }
+{
+    let m = mixed(serial);
+    (m * m % 2147483647 % 196613) as usize
 }
 
 // What the entries from that slot on say of a serial number.

@@ -7,24 +7,59 @@
 -- Assumes nothing.
 use Prim.Native.Nat.{ℕ, zero, suc, _+_, _-_, _*_, _^_, _≤_, _<_}
 use mathlib.Core.Bool.{Bool, true, false, _&&_, _||_}
-use mathlib.Core.Path.{_≡_, refl, sym, _∙_}
+use mathlib.Core.Path.{_≡_, refl, sym, ap, _∙_}
 use mathlib.Core.List.{List, [], _∷_, _++_}
+use native.Mathlib.Nat.{mul-le-mul-right, mul-assoc, mul-one, one-mul, pow-succ'}
 use native.Mathlib.Omega.{arith}
-use lib.Dec.{eqb}
+use lib.Dec.{leb, eqb}
 use lib.ListN.{length, take, drop, getD, length-drop}
-use lib.Seq.{drop-drop, take-take}
-use borrow.Author.Tests.{eqb-true, eqb-false}
-use Rattle.metafile.specs.Bytes.{bytes, part, _⊳_, require, same, member}
+use lib.Seq.{drop-drop, take-take, length-take-le}
+use borrow.Author.Tests.{eqb-true, eqb-false, leb-true, le-leb}
+use Rattle.metafile.specs.Fields.{isDigit, numberFrom, number, isCount, countValue}
+use Rattle.metafile.specs.Bytes.{bytes, part, all, _⊳_, require, same, member}
 use Rattle.metafile.specs.Lines.{LLC, NUL, strategy, stamp, fieldFault, countFault, serialFault, wordFault, stampFault, freeFault, kindFault}
 use Rattle.table.specs.declared.Kind.{Kind as Code}
-use Rattle.table.specs.declared.Kind.the-variants.{Number, Checksum}
+use Rattle.table.specs.declared.Kind.the-variants.{Checksum}
 use Rattle.table.specs.declared.Line.{Line as CodeLine}
 use Rattle.table.specs.Codes.{lineNo, codeNo, kindOf}
-use Rattle.table.proofs.Lines.{kind-is, number-small, checksum-small}
+use Rattle.table.proofs.Lines.{kind-is, checksum-small}
 use Rattle.laws.proofs.First.{test, and-both, or-left, or-right, ⊳-stop, ⊳-go}
 use Rattle.laws.proofs.Lists.{same-eq}
 use Rattle.laws.proofs.Table.{field-short, field-long, field-enough}
 use Rattle.lines.specs.Words.{wordNo}
+
+-- ---- numbers in n digits
+
+from-below : (acc : ℕ) (v : List ℕ) → all isDigit v ≡ true → numberFrom acc v + 1 ≤ (acc + 1) * 10 ^ length v
+unfolding numberFrom all isDigit
+from-below acc [] e = omega (arith, mul-one (acc + 1))
+from-below acc (x ∷ v) e =
+    let h = and-both (isDigit x) (all isDigit v) e in
+    let d = and-both (leb 48 x) (leb x 57) (h .0) in
+    let next = from-below (acc * 10 + (x - 48)) v (h .1) in
+    let k : (acc * 10 + (x - 48) + 1) * 10 ^ length v ≤ ((acc + 1) * 10) * 10 ^ length v
+    = mul-le-mul-right (10 ^ length v) (omega (arith, leb-true x 57 (d .1))) in
+    let p : ((acc + 1) * 10) * 10 ^ length v ≡ (acc + 1) * 10 ^ suc (length v)
+    = mul-assoc (acc + 1) 10 (10 ^ length v) ∙ ap (λ (y : ℕ). (acc + 1) * y) (sym (pow-succ' 10 (length v))) in
+    omega (arith, next, k, p)
+
+-- digits come to no more than as many nines
+pub count-below : (n : ℕ) (v : List ℕ) → length v ≡ n → isCount v ≡ true → countValue v ≤ 10 ^ n - 1
+unfolding isCount countValue number
+count-below n v l e = rw (← l) (omega (arith, from-below 0 v e, one-mul (10 ^ length v)))
+
+pub number-judged : (n : ℕ) (v : List ℕ) → length v ≡ n → (b : Bool) → b ≡ isCount v → require b 6 ≡ countFault (10 ^ n - 1) v
+unfolding countFault
+number-judged n v l b e =
+    test (isCount v)
+    (λ q. rw (e, q, le-leb (countValue v) (10 ^ n - 1) (count-below n v l q)))
+    (λ q. rw (e, q))
+
+-- n bytes at a place
+pub long : (s : List ℕ) (at n : ℕ) → n ≤ length s - at → length (take (at + n - at) (drop at s)) ≡ n
+long s at n h =
+    let width : at + n - at ≡ n = omega arith in
+    rw width (length-take-le n (drop at s) (simp length-drop h))
 
 -- ---- one field
 
@@ -159,9 +194,6 @@ module _ (s : List ℕ) (at r : ℕ) (e : r ≡ fieldFault 3 (wordFault (LLC ∷
 module _ (i : ℕ) (h : i < 24) (line : CodeLine) (is : line ≡ codeNo i) where
   pub kind-told : (k : Code) → line .kind ≡ k → lineNo i .kind ≡ kindOf k (line .width)
   kind-told k told = rw (← told, is) (kind-is i h)
-
-  pub told-number : line .kind ≡ Number → line .width ≤ 12
-  told-number e = rw is (number-small i h (rw is at e))
 
   pub told-checksum : line .kind ≡ Checksum → line .width ≤ 12
   told-checksum e = rw is (checksum-small i h (rw is at e))

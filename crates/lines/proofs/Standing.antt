@@ -1,4 +1,5 @@
 -- Lines whose labels and LFs stand and whose values are good have no fault.
+--     value-is        a value judged by its line's kind
 --     line-stands     one line
 --     Stand           n lines from a place on: what stands and what is good, line by line
 --     stand-run       they have no fault
@@ -18,11 +19,16 @@ use Rattle.metafile.specs.Lines.{fixed, lf, opened, linesOf, kindFault, fault, 
 use Rattle.laws.proofs.First.{test, and-both}
 use Rattle.laws.proofs.Lists.{same-eq}
 use Rattle.laws.proofs.Loops.{fixed-good}
-use Rattle.table.specs.Codes.{lineNo, codes, codeNo, linesFrom}
+use Rattle.table.specs.Codes.{lineNo, kindOf, codes, codeNo, linesFrom}
 use Rattle.table.specs.Stands.{stands, standsAt, headStands, integrityStands}
-use Rattle.table.proofs.Lines.{label-part, label-long}
+use Rattle.table.proofs.Lines.{label-part, label-long, kind-is}
 use Rattle.lines.specs.Stretches.{valueGood, headGood, integrityGood}
 use Rattle.lines.proofs.Runs.{lf-good, part-label, part-value, part-end, opened-go, line-go, opened-size, line-size, run-go, lines-one, linesOf-cons}
+
+-- the value of line i, judged by its kind
+pub value-is : (i p r : ℕ) (s : List ℕ) → i < 24 → r ≡ kindFault (kindOf (codeNo i .kind) (codeNo i .width)) (drop p s) → eqb r 0 ≡ valueGood i p s
+unfolding valueGood
+value-is i p r s h e = rw (e, kind-is i h)
 
 -- a byte that isn't 0 stands inside
 getD-inside : (s : List ℕ) (i x : ℕ) → getD s i 0 ≡ suc x → i < length s

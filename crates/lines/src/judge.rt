@@ -12,30 +12,6 @@ use crate::words;
 use crate::words::is_word;
 use table::Kind;
 
-// The largest number of so many digits.
-const NINES: [u64; 13] = [
-    0,
-    9,
-    99,
-    999,
-    9999,
-    99999,
-    999999,
-    9999999,
-    99999999,
-    999999999,
-    9999999999,
-    99999999999,
-    999999999999,
-];
-
-fn nines(n: usize) -> u64
-    requires { ⌜ n ≤ 12 ⌝ }
-    ensures { λ r. ⌜ r ≡ 10 ^ n - 1 ⌝ }
-{
-    NINES[n]
-}
-
 // No fault where the test holds, else this number.
 pub fn verdict(good: bool, number: u8) -> u8
     ensures { λ r. ⌜ r ≡ require good number ⌝ }
@@ -45,8 +21,19 @@ pub fn verdict(good: bool, number: u8) -> u8
 
 // ---- one field
 
+// n digits, which come to at most n nines
+pub fn number_fault(s: &[u8], at: usize, n: usize) -> u8
+    requires { ⌜ at ≤ length (now s) ⌝ }
+    ensures { λ r. ⌜ r ≡ fieldFault n (countFault (10 ^ n - 1)) (drop at (now (s .entry))) ⌝ }
+{
+    if s.len() - at < n {
+        return 4;
+    }
+    verdict(fields::is_count(&s[at..at + n]), 6)
+}
+
 // n digits that come to at most so much
-fn count_fault(s: &[u8], at: usize, n: usize, most: u64) -> u8
+pub fn count_fault(s: &[u8], at: usize, n: usize, most: u64) -> u8
     requires { ⌜ (at ≤ length (now s)) × (n ≤ 12) ⌝ }
     ensures { λ r. ⌜ r ≡ fieldFault n (countFault most) (drop at (now (s .entry))) ⌝ }
 {
@@ -57,7 +44,7 @@ fn count_fault(s: &[u8], at: usize, n: usize, most: u64) -> u8
     verdict(fields::is_count(v) & (fields::count_value(v) <= most), 6)
 }
 
-fn text_fault(s: &[u8], at: usize, n: usize) -> u8
+pub fn text_fault(s: &[u8], at: usize, n: usize) -> u8
     requires { ⌜ at ≤ length (now s) ⌝ }
     ensures { λ r. ⌜ r ≡ fieldFault n textFault (drop at (now (s .entry))) ⌝ }
 {
@@ -67,7 +54,7 @@ fn text_fault(s: &[u8], at: usize, n: usize) -> u8
     verdict(fields::is_text(&s[at..at + n]), 6)
 }
 
-fn date_fault(s: &[u8], at: usize) -> u8
+pub fn date_fault(s: &[u8], at: usize) -> u8
     requires { ⌜ at ≤ length (now s) ⌝ }
     ensures { λ r. ⌜ r ≡ fieldFault 8 dateFault (drop at (now (s .entry))) ⌝ }
 {
@@ -77,7 +64,7 @@ fn date_fault(s: &[u8], at: usize) -> u8
     verdict(fields::is_date(&s[at..at + 8]), 6)
 }
 
-fn offset_fault(s: &[u8], at: usize) -> u8
+pub fn offset_fault(s: &[u8], at: usize) -> u8
     requires { ⌜ at ≤ length (now s) ⌝ }
     ensures { λ r. ⌜ r ≡ fieldFault 16 offsetFault (drop at (now (s .entry))) ⌝ }
 {
@@ -87,7 +74,7 @@ fn offset_fault(s: &[u8], at: usize) -> u8
     verdict(fields::is_offset(&s[at..at + 16]), 6)
 }
 
-fn serial_fault(s: &[u8], at: usize) -> u8
+pub fn serial_fault(s: &[u8], at: usize) -> u8
     requires { ⌜ at ≤ length (now s) ⌝ }
     ensures { λ r. ⌜ r ≡ fieldFault 38 serialFault (drop at (now (s .entry))) ⌝ }
 {
@@ -110,7 +97,7 @@ fn free_fault(s: &[u8], at: usize, n: usize) -> u8
 }
 
 // one of two listed words
-fn word_fault(s: &[u8], at: usize, a: usize, b: usize) -> u8
+pub fn word_fault(s: &[u8], at: usize, a: usize, b: usize) -> u8
     requires { ⌜ (at ≤ length (now s)) × (a < 10) × (b < 10) ⌝ }
     ensures { λ r. ⌜ r ≡ fieldFault 3 (wordFault (wordNo a ∷ wordNo b ∷ [])) (drop at (now (s .entry))) ⌝ }
 {
@@ -135,7 +122,7 @@ fn strategy_fault(s: &[u8], at: usize) -> u8
 }
 
 // UTC, NUL or ALT, then 38 bytes: a serial number after ALT
-fn standard_fault(s: &[u8], at: usize) -> u8
+pub fn standard_fault(s: &[u8], at: usize) -> u8
     requires { ⌜ at ≤ length (now s) ⌝ }
     ensures { λ r. ⌜ r ≡ kindFault (timeStandard .kind) (drop at (now (s .entry))) ⌝ }
 {
@@ -152,7 +139,7 @@ fn standard_fault(s: &[u8], at: usize) -> u8
 }
 
 // NUL, SLV or MAS, then 38 bytes: a serial number after SLV and MAS
-fn event_fault(s: &[u8], at: usize) -> u8
+pub fn event_fault(s: &[u8], at: usize) -> u8
     requires { ⌜ at ≤ length (now s) ⌝ }
     ensures { λ r. ⌜ r ≡ kindFault (eventSynch .kind) (drop at (now (s .entry))) ⌝ }
 {
@@ -178,7 +165,7 @@ pub fn value_fault(s: &[u8], at: usize, i: usize) -> u8
     let kind = line.kind;
     let width = line.width as usize;
     match kind {
-        Kind::Number => count_fault(s, at, width, nines(width)),
+        Kind::Number => number_fault(s, at, width),
         Kind::Checksum => count_fault(s, at, width, 255),
         Kind::Text => text_fault(s, at, width),
         Kind::Date => date_fault(s, at),

@@ -27,6 +27,8 @@ pub use run::opened_bytes;
 pub use run::opened_fault;
 pub use stretches::head_lines_fault;
 pub use stretches::integrity_fault;
+pub use stretches::length_fault;
+pub use stretches::short_id_fault;
 pub use words::begins_mini;
 pub use words::is_word;
 pub use write::put_bytes;

@@ -1,48 +1,41 @@
-// The lines that every chunk has: a chunk's head and its integrity data. Where every label and LF stands and every value is
+// What a file has most of. The lines that every chunk has: a chunk's head and its integrity data. Where every label and LF stands and every value is
 // good there is no fault; else the lines are gone through one by one for the first.
 ghost use mathlib.Core.Path.{_≡_};
-ghost use Prim.Native.Nat.{_≤_, _<_};
+ghost use Prim.Native.Nat.{_≤_};
 ghost use lib.ListN.{length, drop};
-ghost use Rattle.metafile.specs.Lines.{linesOf, run};
-ghost use Rattle.table.specs.Codes.{linesFrom};
-ghost use Rattle.lines.specs.Stretches.{valueGood, headGood, integrityGood};
-use crate::judge::value_fault;
+ghost use Rattle.metafile.specs.Lines.{kindFault, linesOf, run};
+ghost use Rattle.table.specs.Codes.{lineNo, linesFrom};
+ghost use Rattle.lines.specs.Stretches.{headGood, integrityGood};
+use crate::judge;
 use crate::run::lines_fault;
+use crate::words;
 
-// The value of line i at a place has no fault.
-fn value_good(s: &[u8], at: usize, i: usize) -> bool
-    requires { ⌜ (at ≤ length (now s)) × (i < 24) ⌝ }
-    ensures { λ r. ⌜ r ≡ valueGood i at (now (s .entry)) ⌝ }
-{
-    value_fault(s, at, i) == 0
-}
-
-// The values from Chunk_Header_Length to Chunk_Dependency_Length.
+// The values from Chunk_Header_Length to Chunk_Dependency_Length have no fault.
 fn head_good(s: &[u8]) -> bool
     requires { ⌜ 540 ≤ length (now s) ⌝ }
     ensures { λ r. ⌜ r ≡ headGood (now (s .entry)) ⌝ }
 {
-    value_good(s, 20, 0)
-        & value_good(s, 46, 1)
-        & value_good(s, 316, 2)
-        & value_good(s, 342, 3)
-        & value_good(s, 366, 4)
-        & value_good(s, 426, 5)
-        & value_good(s, 461, 6)
-        & value_good(s, 527, 7)
+    (judge::number_fault(s, 20, 12) == 0)
+        & (judge::text_fault(s, 46, 256) == 0)
+        & (judge::word_fault(s, 316, words::BIN, words::TXT) == 0)
+        & (judge::word_fault(s, 342, words::GEN, words::SPE) == 0)
+        & (judge::standard_fault(s, 366) == 0)
+        & (judge::offset_fault(s, 426) == 0)
+        & (judge::event_fault(s, 461) == 0)
+        & (judge::number_fault(s, 527, 12) == 0)
 }
 
-// The values of the integrity data.
+// The values of the integrity data have no fault.
 fn integrity_good(s: &[u8]) -> bool
     requires { ⌜ 254 ≤ length (now s) ⌝ }
     ensures { λ r. ⌜ r ≡ integrityGood (now (s .entry)) ⌝ }
 {
-    value_good(s, 20, 16)
-        & value_good(s, 80, 17)
-        & value_good(s, 111, 18)
-        & value_good(s, 163, 19)
-        & value_good(s, 192, 20)
-        & value_good(s, 250, 21)
+    (judge::serial_fault(s, 20) == 0)
+        & (judge::date_fault(s, 80) == 0)
+        & (judge::text_fault(s, 111, 32) == 0)
+        & (judge::date_fault(s, 163) == 0)
+        & (judge::text_fault(s, 192, 32) == 0)
+        & (judge::count_fault(s, 250, 3, 255) == 0)
 }
 
 // The lines from Chunk_Header_Length to Chunk_Dependency_Length.
@@ -69,4 +62,19 @@ pub fn integrity_fault(s: &[u8], at: usize) -> u8
         }
     }
     lines_fault(s, at, 16, 6)
+}
+
+// The two values of a mini-chunk: a short ID, and a length.
+pub fn short_id_fault(s: &[u8], at: usize) -> u8
+    requires { ⌜ at ≤ length (now s) ⌝ }
+    ensures { λ r. ⌜ r ≡ kindFault (lineNo 15 .kind) (drop at (now (s .entry))) ⌝ }
+{
+    judge::text_fault(s, at, 10)
+}
+
+pub fn length_fault(s: &[u8], at: usize) -> u8
+    requires { ⌜ at ≤ length (now s) ⌝ }
+    ensures { λ r. ⌜ r ≡ kindFault (lineNo 12 .kind) (drop at (now (s .entry))) ⌝ }
+{
+    judge::number_fault(s, at, 12)
 }

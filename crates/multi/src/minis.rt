@@ -6,9 +6,7 @@ ghost use lib.ListN.{length, drop};
 ghost use Rattle.metafile.specs.Bytes.{starts};
 ghost use Rattle.metafile.specs.Multi.{miniLabel, miniData, miniFault, minisFault, minisEnd};
 ghost use Rattle.multi.specs.Part.{partOf, keptIDs, firstMini, miniRest};
-use crate::HEADER_LENGTH;
 use crate::Part;
-use crate::SHORT_ID;
 use crate::runs;
 use crate::types;
 
@@ -36,7 +34,7 @@ fn data_fault(r: &[u8], at: usize) -> u8
     requires { ⌜ at ≤ length (now r) ⌝ }
     ensures { λ f. ⌜ f ≡ miniRest (drop at (now (r .entry))) ⌝ }
 {
-    let f = lines::value_fault(r, at, HEADER_LENGTH);
+    let f = lines::length_fault(r, at);
     if f != 0 {
         return f;
     }
@@ -49,7 +47,7 @@ fn mini_fault(r: &[u8], at: usize, ids: &[u8], n: usize) -> u8
     requires { ⌜ starts miniLabel (drop at (now r)) ≡ true ⌝ }
     ensures { λ f. ⌜ f ≡ miniFault (keptIDs n (now (ids .entry))) (drop at (now (r .entry))) ⌝ }
 {
-    let f = lines::value_fault(r, at + 10, SHORT_ID);
+    let f = lines::short_id_fault(r, at + 10);
     if f != 0 {
         return f;
     }

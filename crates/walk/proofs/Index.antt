@@ -22,14 +22,14 @@ use Rattle.metafile.specs.Closing.{closingEnd, closingSerial}
 use Rattle.metafile.specs.Header.{isLLC, markLength, markOf, headerFault}
 use Rattle.metafile.specs.Chunk.{closingPlace, chunkEnd, serialOf, rowAt}
 use Rattle.metafile.specs.Reading.{rowsOf, serialsOf}
-use Rattle.metafile.specs.Append.{noRow, rowNo}
+use Rattle.metafile.specs.Append.{rowNo}
 use Rattle.laws.proofs.First.{untrue}
 use Rattle.laws.proofs.Loops.{part-drop}
-use Rattle.chunk_laws.proofs.Chunk.{fits-contents, fits, progress}
+use Rattle.chunk_laws.proofs.Chunk.{progress}
 use Rattle.chunk_laws.proofs.File.{header-whole, length-mark}
 use Rattle.chunk_laws.proofs.Places.{Placed, row-placed, placed-end}
 use Rattle.index.specs.Index.{slotOf, lookedUp, hasEmpty, entered, inFile, serialsAt, slots, Holds}
-use Rattle.index.proofs.Laws.{slot-below, holds-none, holds-more, look-new, look-there, entries-inside}
+use Rattle.index.proofs.Laws.{holds-none, holds-more, look-new, look-there, entries-inside}
 use Rattle.walk.specs.Walk.{placeAfter}
 use Rattle.walk.specs.Index.{serialPlace, serialPlaces, Indexed}
 use Rattle.walk.proofs.Steps.{row-end, place-suc}

@@ -4,9 +4,9 @@
 --     survey-..   the survey of a file whose header is faulty, and of one read to its end
 -- Assumes nothing.
 use Prim.Native.Nat.{ℕ, zero, suc, _+_, _≤_, _<_}
-use mathlib.Core.Bool.{Bool, true, false, cond}
+use mathlib.Core.Bool.{Bool, false, cond}
 use mathlib.Core.Path.{_≡_, refl, sym, ap, _∙_}
-use mathlib.Core.List.{List, [], _∷_, _++_, append-assoc, append-nil}
+use mathlib.Core.List.{List, [], _∷_, _++_, append-assoc}
 use native.Mathlib.Omega.{arith}
 use native.Mathlib.Numerals.{add-one}
 use lib.Dec.{ltb, eqb}
@@ -20,7 +20,6 @@ use Rattle.metafile.specs.Append.{rowNo}
 use Rattle.laws.proofs.First.{test}
 use Rattle.chunk_laws.proofs.File.{good-begun, rows-unbegun, read-unbegun}
 use Rattle.chunk.specs.declared.parts.Layout.{Layout}
-use Rattle.walk.specs.declared.answers.Survey.{Survey}
 use Rattle.walk.specs.Walk.{placeAfter}
 use Rattle.walk.specs.Survey.{valuesBelow, noted, surveyOf}
 use Rattle.walk.proofs.Steps.{row-place, row-end, stop-is}

@@ -1,5 +1,4 @@
 -- `chunk::contents::whole_bytes` meets its contract. Assumes nothing.
-use mathlib.Core.Path.{_≡_}
 use native.Mathlib.Omega.{arith}
 use borrow.Author.Needs.{needs}
 use Rattle.metafile.specs.Chunk.{contentCount}

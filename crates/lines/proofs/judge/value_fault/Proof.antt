@@ -3,7 +3,7 @@ use Rattle.metafile.specs.Lines.{kindFault, genericType, timeSynchType}
 use Rattle.table.specs.declared.Kind.the-variants.{Number, Checksum, Text, Date, Offset, Serial, Generic, Synch, Standard, Event, Strategy}
 use Rattle.table.specs.Codes.{kindOf}
 use Rattle.lines.specs.Words.{wordNo}
-use Rattle.lines.proofs.Judged.{kind-told, told-number, told-checksum}
+use Rattle.lines.proofs.Judged.{kind-told, told-checksum}
 use native.Mathlib.Omega.{arith}
 use borrow.Author.Needs.{needs}
 use Rattle.lines.proofs.judge.value_fault.Statement.{statement}
@@ -18,18 +18,14 @@ cast-width c = search needs
 enum-told : tie.Need-enum-told
 enum-told c = search needs
 
-nines-requires : tie.Need-nines-requires
-nines-requires c κs = told-number (c .before .before .before .before .before .args .i) (omega arith) (c .before .before .before .line-at .result) (c .before .before .before .line-at .ensures) (c .enum-told .given .1)
-
-count-fault-requires : tie.Need-count-fault-requires
-count-fault-requires c κs =
-    omega (arith, told-number (c .before .before .before .before .before .before .args .i) (omega arith) (c .before .before .before .before .line-at .result) (c .before .before .before .before .line-at .ensures) (c .before .enum-told .given .1))
+number-fault-requires : tie.Need-number-fault-requires
+number-fault-requires c κs = search needs
 
 enum-told-2 : tie.Need-enum-told-2
 enum-told-2 c = search needs
 
-count-fault-requires-2 : tie.Need-count-fault-requires-2
-count-fault-requires-2 c κs =
+count-fault-requires : tie.Need-count-fault-requires
+count-fault-requires c κs =
     omega (arith, told-checksum (c .before .before .before .before .before .args .i) (omega arith) (c .before .before .before .line-at .result) (c .before .before .before .line-at .ensures) (c .enum-told2 .given .1))
 
 enum-told-3 : tie.Need-enum-told-3
@@ -89,12 +85,12 @@ strategy-fault-requires c κs = search needs
 returns : tie.Need-returns
 unfolding kindOf kindFault
 returns c =
-    rw (kind-told (c .before .before .before .before .before .before .before .args .i) (omega arith) (c .before .before .before .before .before .line-at .result) (c .before .before .before .before .before .line-at .ensures) Number (c .before .before .enum-told .given .1), ← c .before .nines .ensures) (c .count-fault .ensures)
+    rw (kind-told (c .before .before .before .before .before .before .args .i) (omega arith) (c .before .before .before .before .line-at .result) (c .before .before .before .before .line-at .ensures) Number (c .before .enum-told .given .1)) (c .number-fault .ensures)
 
 returns-2 : tie.Need-returns-2
 unfolding kindOf kindFault
 returns-2 c =
-    rw (kind-told (c .before .before .before .before .before .before .args .i) (omega arith) (c .before .before .before .before .line-at .result) (c .before .before .before .before .line-at .ensures) Checksum (c .before .enum-told2 .given .1)) (c .count-fault2 .ensures)
+    rw (kind-told (c .before .before .before .before .before .before .args .i) (omega arith) (c .before .before .before .before .line-at .result) (c .before .before .before .before .line-at .ensures) Checksum (c .before .enum-told2 .given .1)) (c .count-fault .ensures)
 
 returns-3 : tie.Need-returns-3
 unfolding kindOf kindFault
@@ -148,10 +144,9 @@ value-fault-spec =
     line-at-requires
     cast-width
     enum-told
-    nines-requires
-    count-fault-requires
+    number-fault-requires
     enum-told-2
-    count-fault-requires-2
+    count-fault-requires
     enum-told-3
     text-fault-requires
     enum-told-4

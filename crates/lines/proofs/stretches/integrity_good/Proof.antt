@@ -1,51 +1,60 @@
--- `lines::stretches::integrity_good` meets its contract. Assumes nothing.
+-- `lines::stretches::integrity_good` meets its contract: each value is judged by its line's kind. Assumes nothing.
 use mathlib.Core.Path.{_≡_}
+use native.Mathlib.Omega.{arith}
+use Rattle.metafile.specs.Lines.{kindFault, genericType, timeSynchType}
+use Rattle.table.specs.Codes.{kindOf, codes, codeNo}
+use Rattle.lines.specs.Words.{wordNo}
 use Rattle.lines.specs.Stretches.{integrityGood}
+use Rattle.lines.proofs.Standing.{value-is}
 use borrow.Author.Needs.{needs}
 use Rattle.lines.proofs.stretches.integrity_good.Statement.{statement}
 use Rattle.lines.proofs.stretches.integrity_good.Tie as tie
 use Rattle.lines.proofs.stretches.integrity_good.Reads as reads
 use Rattle.lines.proofs.stretches.integrity_good.Lts as lts
-use Rattle.lines.proofs.stretches.value_good.Reads as value-good-reads
+use Rattle.lines.proofs.judge.count_fault.Reads as count-fault-reads
+use Rattle.lines.proofs.judge.date_fault.Reads as date-fault-reads
+use Rattle.lines.proofs.judge.serial_fault.Reads as serial-fault-reads
+use Rattle.lines.proofs.judge.text_fault.Reads as text-fault-reads
 
-value-good-requires : tie.Need-value-good-requires
-value-good-requires c κs = search needs
+serial-fault-requires : tie.Need-serial-fault-requires
+serial-fault-requires c κs = search needs
 
-value-good-requires-2 : tie.Need-value-good-requires-2
-value-good-requires-2 c κs = search needs
+date-fault-requires : tie.Need-date-fault-requires
+date-fault-requires c κs = search needs
 
-value-good-requires-3 : tie.Need-value-good-requires-3
-value-good-requires-3 c κs = search needs
+text-fault-requires : tie.Need-text-fault-requires
+text-fault-requires c κs = search needs
 
-value-good-requires-4 : tie.Need-value-good-requires-4
-value-good-requires-4 c κs = search needs
+date-fault-requires-2 : tie.Need-date-fault-requires-2
+date-fault-requires-2 c κs = search needs
 
-value-good-requires-5 : tie.Need-value-good-requires-5
-value-good-requires-5 c κs = search needs
+text-fault-requires-2 : tie.Need-text-fault-requires-2
+text-fault-requires-2 c κs = search needs
 
-value-good-requires-6 : tie.Need-value-good-requires-6
-value-good-requires-6 c κs = search needs
+count-fault-requires : tie.Need-count-fault-requires
+count-fault-requires c κs = search needs
 
 returns : tie.Need-returns
-unfolding integrityGood
+unfolding kindOf kindFault codes codeNo wordNo genericType timeSynchType integrityGood
 returns c =
+    let s = c .before .before .before .before .before .before .before .args .s .now in
     rw (
-      c .before .before .before .before .before .value-good .ensures,
-      c .before .before .before .before .value-good2 .ensures,
-      c .before .before .before .value-good3 .ensures,
-      c .before .before .value-good4 .ensures,
-      c .before .value-good5 .ensures,
-      c .value-good6 .ensures,
+      value-is 16 20 (c .before .before .before .before .before .serial-fault .result) s (omega arith) (c .before .before .before .before .before .serial-fault .ensures),
+      value-is 17 80 (c .before .before .before .before .date-fault .result) s (omega arith) (c .before .before .before .before .date-fault .ensures),
+      value-is 18 111 (c .before .before .before .text-fault .result) s (omega arith) (c .before .before .before .text-fault .ensures),
+      value-is 19 163 (c .before .before .date-fault2 .result) s (omega arith) (c .before .before .date-fault2 .ensures),
+      value-is 20 192 (c .before .text-fault2 .result) s (omega arith) (c .before .text-fault2 .ensures),
+      value-is 21 250 (c .count-fault .result) s (omega arith) (c .count-fault .ensures),
     )
 
 pub integrity-good-spec : {M : Type 1} → statement M
 integrity-good-spec =
     tie.close
     (tie.spec
-    value-good-requires
-    value-good-requires-2
-    value-good-requires-3
-    value-good-requires-4
-    value-good-requires-5
-    value-good-requires-6
+    serial-fault-requires
+    date-fault-requires
+    text-fault-requires
+    date-fault-requires-2
+    text-fault-requires-2
+    count-fault-requires
     returns)

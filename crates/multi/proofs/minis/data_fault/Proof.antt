@@ -7,13 +7,13 @@ use Rattle.multi.proofs.MiniStages.{data-stages, number-fits}
 use Rattle.multi.proofs.minis.data_fault.Statement.{statement}
 use Rattle.multi.proofs.minis.data_fault.Tie as tie
 
-value-fault-requires : tie.Need-value-fault-requires
-value-fault-requires c κs = search needs
+length-fault-requires : tie.Need-length-fault-requires
+length-fault-requires c κs = search needs
 
 returns : tie.Need-returns
 returns c =
     let a = c .before .before .before .args in
-    stop _ _ _ (c .before .value-fault .ensures) (c .if1 .taken) ∙ sym (data-stages (a .at) (a .r .now))
+    stop _ _ _ (c .before .length-fault .ensures) (c .if1 .taken) ∙ sym (data-stages (a .at) (a .r .now))
 
 add-free-fault : tie.Need-add-free-fault
 add-free-fault c = search needs
@@ -21,18 +21,18 @@ add-free-fault c = search needs
 length-at-requires : tie.Need-length-at-requires
 length-at-requires c κs =
     let a = c .before .before .before .args in
-    number-fits (a .at) (a .r .now) (omega arith) (none (c .before .value-fault .ensures) (c .if1 .left))
+    number-fits (a .at) (a .r .now) (omega arith) (none (c .before .length-fault .ensures) (c .if1 .left))
 
 free-fault-requires : tie.Need-free-fault-requires
 free-fault-requires c κs =
     let a = c .before .before .before .before .args in
     number-fits (a .at) (a .r .now) (omega arith)
-    (none (c .before .before .value-fault .ensures) (c .before .if1 .left))
+    (none (c .before .before .length-fault .ensures) (c .before .if1 .left))
 
 returns-2 : tie.Need-returns-2
 returns-2 c =
     let a = c .before .before .before .before .before .args in
-    go _ _ _ (none (c .before .before .before .value-fault .ensures) (c .before .before .if1 .left))
+    go _ _ _ (none (c .before .before .before .length-fault .ensures) (c .before .before .if1 .left))
     (rw (c .before .length-at .ensures) at (c .free-fault .ensures))
     ∙ sym (data-stages (a .at) (a .r .now))
 
@@ -40,7 +40,7 @@ pub data-fault-spec : {M : Type 1} → statement M
 data-fault-spec =
     tie.close
     (tie.spec
-    value-fault-requires
+    length-fault-requires
     returns
     add-free-fault
     length-at-requires

@@ -7,18 +7,18 @@ use Rattle.multi.proofs.MiniStages.{label-fits, id-fits, mini-stages, m
 use Rattle.multi.proofs.minis.mini_fault.Statement.{statement}
 use Rattle.multi.proofs.minis.mini_fault.Tie as tie
 
-add-value-fault : tie.Need-add-value-fault
-add-value-fault c = search needs
+add-short-id-fault : tie.Need-add-short-id-fault
+add-short-id-fault c = search needs
 
-value-fault-requires : tie.Need-value-fault-requires
-value-fault-requires c κs =
+short-id-fault-requires : tie.Need-short-id-fault-requires
+short-id-fault-requires c κs =
     let a = c .before .before .args in
-    (label-fits (a .at) (a .r .now) (c .before .before .pre .1) (omega arith), omega arith)
+    label-fits (a .at) (a .r .now) (c .before .before .pre .1) (omega arith)
 
 returns : tie.Need-returns
 returns c =
     let a = c .before .before .before .before .args in
-    stop _ _ _ (c .before .value-fault .ensures) (c .if1 .taken) ∙ sym
+    stop _ _ _ (c .before .short-id-fault .ensures) (c .if1 .taken) ∙ sym
     (mini-stages (a .at) (a .r .now) (c .before .before .before .before .pre .1) _)
 
 add-is-kept : tie.Need-add-is-kept
@@ -37,7 +37,7 @@ part-is-kept-end : tie.Need-part-is-kept-end
 part-is-kept-end c =
     let a = c .before .before .before .before .args in
     id-fits (a .at) (a .r .now) (c .before .before .before .before .pre .1)
-    (none (c .before .value-fault .ensures) (c .if1 .left)) (omega arith)
+    (none (c .before .short-id-fault .ensures) (c .if1 .left)) (omega arith)
 
 is-kept-requires : tie.Need-is-kept-requires
 is-kept-requires c κs = search needs
@@ -49,14 +49,14 @@ data-fault-requires : tie.Need-data-fault-requires
 data-fault-requires c κs =
     let a = c .before .before .before .before .before .before .before .args in
     id-fits (a .at) (a .r .now) (c .before .before .before .before .before .before .before .pre .1)
-    (none (c .before .before .before .before .value-fault .ensures) (c .before .before .before .if1 .left))
+    (none (c .before .before .before .before .short-id-fault .ensures) (c .before .before .before .if1 .left))
     (omega arith)
 
 returns-2 : tie.Need-returns-2
 returns-2 c =
     let a = c .before .before .before .before .before .before .before .before .args in
     mini-declared (a .at) (a .r .now) (c .before .before .before .before .before .before .before .before .pre .1)
-    (none (c .before .before .before .before .before .value-fault .ensures)
+    (none (c .before .before .before .before .before .short-id-fault .ensures)
     (c .before .before .before .before .if1 .left))
     _ (c .before .before .is-kept .ensures) _ (c .before .if2 .taken) (c .data-fault .ensures)
 
@@ -64,15 +64,15 @@ returns-3 : tie.Need-returns-3
 returns-3 c =
     let a = c .before .before .before .before .before .before .before .args in
     mini-undeclared (a .at) (a .r .now) (c .before .before .before .before .before .before .before .pre .1)
-    (none (c .before .before .before .before .value-fault .ensures) (c .before .before .before .if1 .left))
+    (none (c .before .before .before .before .short-id-fault .ensures) (c .before .before .before .if1 .left))
     _ (c .before .is-kept .ensures) (c .if2 .left)
 
 pub mini-fault-spec : {M : Type 1} → statement M
 mini-fault-spec =
     tie.close
     (tie.spec
-    add-value-fault
-    value-fault-requires
+    add-short-id-fault
+    short-id-fault-requires
     returns
     add-is-kept
     add-is-kept-2

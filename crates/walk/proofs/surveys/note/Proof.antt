@@ -4,7 +4,7 @@ use mathlib.Core.Logic.{⊎-elim}
 use mathlib.Core.Path.{_≡_, refl, _∙_}
 use mathlib.Core.List.{_++_}
 use native.Mathlib.Omega.{arith}
-use lib.ListN.{length, take, drop, length-set}
+use lib.ListN.{length, take, drop}
 use Rattle.walk.specs.Survey.{noted}
 use Rattle.walk.proofs.Notes.{note-values, note-rows, note-here, note-other}
 use Rattle.walk.proofs.surveys.note.Statement.{statement}

@@ -1,6 +1,5 @@
 -- `walk::walks::row_with` meets its contract. Assumes nothing.
 use Prim.Native.Nat.{_+_, _≤_}
-use mathlib.Core.Path.{_≡_}
 use lib.ListN.{length}
 use Rattle.metafile.specs.Reading.{rowsOf}
 use Rattle.chunk_laws.proofs.File.{file-few}

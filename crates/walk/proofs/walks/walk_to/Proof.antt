@@ -9,7 +9,6 @@ use Rattle.walk.proofs.Steps.{place-none}
 use Rattle.walk.proofs.Stages.{HeaderIs, header-is}
 use Rattle.walk.proofs.Index.{indexed-more, index-long}
 use Rattle.walk.proofs.Loops.{Turn, going, halted, found-none, found-here}
-use borrow.Author.Needs.{needs}
 use native.Mathlib.Omega.{arith}
 use Rattle.walk.proofs.walks.walk_to.Statement.{statement}
 use Rattle.walk.proofs.walks.walk_to.Tie as tie

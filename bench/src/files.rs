@@ -1,0 +1,103 @@
+//! The files that are read.
+
+use compare::build::{Chunk, Closing, Contents, File, Times, Type};
+use compare::generate::{with_check, MULTI_CHUNK};
+use compare::random::Random;
+use plain::Serial;
+
+pub const MIB: usize = 1 << 20;
+
+pub fn serial(number: usize) -> Serial {
+    let first = format!(
+        "#20240229{:02}{:02}{:02}{:03}SURVEY{:06}{:05}",
+        number / 3600 % 24,
+        number / 60 % 60,
+        number % 60,
+        number % 1000,
+        number,
+        number % 65536
+    );
+    with_check(first.into_bytes().try_into().expect("35 bytes"))
+}
+
+fn closing(number: usize) -> Closing {
+    Closing {
+        serial: serial(number),
+        recorded: *b"20240229",
+        recorder: b"RECORDER".to_vec(),
+        written: *b"20240301",
+        writer: b"WRITER".to_vec(),
+        sum_off: 0,
+    }
+}
+
+fn times() -> Times {
+    Times {
+        synch: *b"GEN",
+        standard: *b"UTC",
+        alternate: [b' '; 38],
+        offset: *b"+0000      8.035",
+        value: 80_350_000_000,
+        event: *b"NUL",
+        linked: [b' '; 38],
+    }
+}
+
+fn chunk(number: usize, contents: Contents) -> Chunk {
+    let multi = matches!(contents, Contents::Multi(..));
+    Chunk {
+        sub_format: if multi { MULTI_CHUNK.to_vec() } else { b"ADS\\DATA\\TEST".to_vec() },
+        generic: *b"TXT",
+        times: times(),
+        dependencies: Vec::new(),
+        specific: Vec::new(),
+        contents,
+        closing: closing(number),
+    }
+}
+
+fn header(nul: bool, mark: &[u8]) -> File {
+    File::new(nul, mark, &closing(999_999))
+}
+
+/// So many counted chunks of so many bytes. The last one has these rows as parents.
+pub fn counted(chunks: usize, bytes: usize, parents: &[usize]) -> File {
+    let mut random = Random::new(1, "counted", 0);
+    let mut file = header(false, b"");
+    for number in 0..chunks {
+        let mut chunk = chunk(number, Contents::Counted(random.bytes(bytes)));
+        if number + 1 == chunks {
+            chunk.dependencies = parents.iter().map(|&row| (serial(row), chunk.sub_format.clone())).collect();
+        }
+        file.push(&chunk);
+    }
+    file
+}
+
+/// So many open chunks of so many bytes, with a mark of 90 bytes.
+pub fn open(chunks: usize, bytes: usize) -> File {
+    let mut random = Random::new(1, "open", 0);
+    let mark = random.text(90);
+    let mut file = header(true, &mark);
+    for number in 0..chunks {
+        file.push(&chunk(number, Contents::Open(random.bytes(bytes))));
+    }
+    file
+}
+
+/// One MultiChunk with four types and so many mini-chunks of so many bytes.
+pub fn multi(mini_chunks: usize, bytes: usize) -> File {
+    let mut random = Random::new(1, "multi", 0);
+    let types = (0..4)
+        .map(|number| Type {
+            sub_format: b"ADS\\DATA\\DEPTH".to_vec(),
+            id: format!("{:<10}", format!("P{number}")).into_bytes().try_into().expect("10 bytes"),
+            times: times(),
+            specific: Vec::new(),
+        })
+        .collect();
+    let minis = (0..mini_chunks).map(|number| (number % 4, random.bytes(bytes))).collect();
+    let mut file = header(false, b"");
+    file.push(&chunk(0, Contents::Multi(types, minis)));
+    file
+}

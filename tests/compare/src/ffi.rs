@@ -1,0 +1,304 @@
+//! The C interface of the proved library, include/ads.h, and thin safe functions over it.
+//!
+//! A safe function passes the pointer and length of a slice. The functions of `claimed` pass a length of their own
+//! beside a pointer; the library is to refuse it (11) before it looks at a byte.
+
+use plain::{Beginning, Serial};
+
+/// One row of the table, 104 bytes.
+#[repr(C)]
+#[derive(Clone, Copy)]
+pub struct Row {
+    pub serial: Serial,
+    pub place: usize,
+    pub header: usize,
+    pub contents: usize,
+    pub bytes: usize,
+    pub end: usize,
+    pub dependencies: usize,
+    pub offset: i64,
+    pub multichunk: bool,
+    pub good: bool,
+}
+
+#[repr(C)]
+#[derive(Clone, Copy, Debug, PartialEq, Eq)]
+pub struct Reading {
+    pub count: usize,
+    pub stop: usize,
+    pub good: bool,
+    pub number: u8,
+}
+
+#[repr(C)]
+#[derive(Clone, Copy, Debug, PartialEq, Eq)]
+pub struct Written {
+    pub length: usize,
+    pub number: u8,
+}
+
+#[repr(C)]
+#[derive(Clone, Copy, Debug, PartialEq, Eq)]
+pub struct ParentAnswer {
+    pub row: usize,
+    pub found: bool,
+    pub agree: bool,
+    pub number: u8,
+}
+
+#[repr(C)]
+#[derive(Clone, Copy, Debug, PartialEq, Eq)]
+pub struct Ends {
+    pub first: usize,
+    pub second: usize,
+    pub third: usize,
+    pub number: u8,
+}
+
+#[repr(C)]
+#[derive(Clone, Copy, Debug, PartialEq, Eq)]
+pub struct Part {
+    pub place: usize,
+    pub bytes: usize,
+    pub number: u8,
+}
+
+#[repr(C)]
+#[derive(Clone, Copy)]
+pub struct Text<const N: usize> {
+    pub bytes: [u8; N],
+    pub given: usize,
+}
+
+#[repr(C)]
+#[derive(Clone, Copy)]
+pub struct Description {
+    pub subformat: Text<256>,
+    pub generic: [u8; 3],
+    pub synch: [u8; 3],
+    pub standard: [u8; 3],
+    pub alternate: Serial,
+    pub offset: [u8; 16],
+    pub event: [u8; 3],
+    pub linked: Serial,
+    pub serial: Serial,
+    pub recorded: [u8; 8],
+    pub recorder: Text<32>,
+    pub written: [u8; 8],
+    pub writer: Text<32>,
+}
+
+const _: () = assert!(size_of::<Row>() == 104);
+
+#[rustfmt::skip]
+mod c {
+    use super::{Description, Ends, ParentAnswer, Part, Reading, Row, Serial, Written};
+
+    extern "C" {
+        pub fn ads_description_new() -> Description;
+        pub fn ads_sub_format(d: Description, text: *const u8, length: usize) -> Description;
+        pub fn ads_generic_type(d: Description, word: *const [u8; 3]) -> Description;
+        pub fn ads_synch_type(d: Description, word: *const [u8; 3]) -> Description;
+        pub fn ads_time_standard(d: Description, word: *const [u8; 3]) -> Description;
+        pub fn ads_alternate_standard(d: Description, serial: *const Serial) -> Description;
+        pub fn ads_time_offset(d: Description, bytes: *const [u8; 16]) -> Description;
+        pub fn ads_event_synch(d: Description, word: *const [u8; 3]) -> Description;
+        pub fn ads_slave_event(d: Description, serial: *const Serial) -> Description;
+        pub fn ads_master_event(d: Description, serial: *const Serial) -> Description;
+        pub fn ads_serial_number(d: Description, serial: *const Serial) -> Description;
+        pub fn ads_recording(d: Description, date: *const [u8; 8], agent: *const u8, length: usize) -> Description;
+        pub fn ads_writing(d: Description, date: *const [u8; 8], agent: *const u8, length: usize) -> Description;
+
+        pub fn ads_begin(strategy: *const [u8; 3], mark: *const u8, mark_length: usize, serial: *const Serial,
+            recorded: *const [u8; 8], recorder: *const u8, recorder_length: usize,
+            written: *const [u8; 8], writer: *const u8, writer_length: usize,
+            buffer: *mut u8, buffer_length: usize) -> Written;
+        pub fn ads_read(file: *const u8, length: usize, rows: *mut Row, room: usize) -> Reading;
+        pub fn ads_parent(file: *const u8, length: usize, row: usize, dependency: usize) -> ParentAnswer;
+        pub fn ads_append(buffer: *mut u8, buffer_length: usize, length: usize, description: Description,
+            parents: *const usize, parent_count: usize, specific: *const u8, specific_length: usize,
+            contents: *const u8, contents_length: usize, open: bool) -> Ends;
+        pub fn ads_contents(file: *const u8, length: usize, row: usize) -> Part;
+        pub fn ads_gather(file: *const u8, length: usize, row: usize, id: *const u8, id_length: usize,
+            buffer: *mut u8, buffer_length: usize) -> Written;
+        pub fn ads_listing(input: *const u8, length: usize, buffer: *mut u8, buffer_length: usize) -> Written;
+    }
+}
+
+/// A table of rows as plain memory, so that rows never written can be looked at.
+pub struct Table {
+    rows: Vec<[u64; 13]>,
+}
+
+impl Table {
+    pub const PATTERN: u64 = 0xA5C3_96E1_5A3C_691E;
+
+    pub fn new(room: usize) -> Self {
+        Table { rows: vec![[Self::PATTERN; 13]; room] }
+    }
+
+    pub fn as_mut_ptr(&mut self) -> *mut Row {
+        self.rows.as_mut_ptr().cast()
+    }
+
+    /// A row that the library wrote.
+    pub fn row(&self, row: usize) -> plain::Row {
+        let memory = &self.rows[row];
+        let flags = memory[12].to_le_bytes();
+        let mut serial = [0; 38];
+        for (at, byte) in serial.iter_mut().enumerate() {
+            *byte = memory[at / 8].to_le_bytes()[at % 8];
+        }
+        assert!(flags[0] <= 1 && flags[1] <= 1, "a flag is {flags:?}");
+        plain::Row {
+            serial,
+            place: memory[5] as usize,
+            header: memory[6] as usize,
+            contents: memory[7] as usize,
+            bytes: memory[8] as usize,
+            end: memory[9] as usize,
+            dependencies: memory[10] as usize,
+            offset: memory[11] as i64,
+            multichunk: flags[0] == 1,
+            good: flags[1] == 1,
+        }
+    }
+
+    /// Whether the rows from one on hold the pattern, in every byte.
+    pub fn untouched_from(&self, row: usize) -> bool {
+        self.rows[row..].iter().all(|memory| *memory == [Self::PATTERN; 13])
+    }
+
+    pub fn room(&self) -> usize {
+        self.rows.len()
+    }
+}
+
+/// The methods of a description, each handing it back.
+#[rustfmt::skip]
+impl Description {
+    pub fn new() -> Self { unsafe { c::ads_description_new() } }
+    pub fn sub_format(self, text: &[u8]) -> Self { unsafe { c::ads_sub_format(self, text.as_ptr(), text.len()) } }
+    pub fn generic_type(self, word: [u8; 3]) -> Self { unsafe { c::ads_generic_type(self, &word) } }
+    pub fn synch_type(self, word: [u8; 3]) -> Self { unsafe { c::ads_synch_type(self, &word) } }
+    pub fn time_standard(self, word: [u8; 3]) -> Self { unsafe { c::ads_time_standard(self, &word) } }
+    pub fn alternate_standard(self, serial: Serial) -> Self { unsafe { c::ads_alternate_standard(self, &serial) } }
+    pub fn time_offset(self, bytes: [u8; 16]) -> Self { unsafe { c::ads_time_offset(self, &bytes) } }
+    pub fn event_synch(self, word: [u8; 3]) -> Self { unsafe { c::ads_event_synch(self, &word) } }
+    pub fn slave_event(self, serial: Serial) -> Self { unsafe { c::ads_slave_event(self, &serial) } }
+    pub fn master_event(self, serial: Serial) -> Self { unsafe { c::ads_master_event(self, &serial) } }
+    pub fn serial_number(self, serial: Serial) -> Self { unsafe { c::ads_serial_number(self, &serial) } }
+    pub fn recording(self, date: [u8; 8], agent: &[u8]) -> Self {
+        unsafe { c::ads_recording(self, &date, agent.as_ptr(), agent.len()) }
+    }
+    pub fn writing(self, date: [u8; 8], agent: &[u8]) -> Self {
+        unsafe { c::ads_writing(self, &date, agent.as_ptr(), agent.len()) }
+    }
+}
+
+impl Default for Description {
+    fn default() -> Self {
+        Self::new()
+    }
+}
+
+#[rustfmt::skip]
+pub fn begin(given: &Beginning, buffer: &mut [u8]) -> Written {
+    let Beginning { strategy, mark, serial, recorded, recorder, written, writer } = given;
+    unsafe {
+        c::ads_begin(strategy, mark.as_ptr(), mark.len(), serial, recorded, recorder.as_ptr(), recorder.len(),
+            written, writer.as_ptr(), writer.len(), buffer.as_mut_ptr(), buffer.len())
+    }
+}
+
+pub fn read(file: &[u8], table: &mut Table) -> Reading {
+    unsafe { c::ads_read(file.as_ptr(), file.len(), table.as_mut_ptr(), table.room()) }
+}
+
+pub fn parent(file: &[u8], row: usize, dependency: usize) -> ParentAnswer {
+    unsafe { c::ads_parent(file.as_ptr(), file.len(), row, dependency) }
+}
+
+#[rustfmt::skip]
+pub fn append(
+    buffer: &mut [u8], length: usize, description: Description, parents: &[usize], specific: &[u8], contents: &[u8], open: bool,
+) -> Ends {
+    unsafe {
+        c::ads_append(buffer.as_mut_ptr(), buffer.len(), length, description, parents.as_ptr(), parents.len(),
+            specific.as_ptr(), specific.len(), contents.as_ptr(), contents.len(), open)
+    }
+}
+
+pub fn contents(file: &[u8], row: usize) -> Part {
+    unsafe { c::ads_contents(file.as_ptr(), file.len(), row) }
+}
+
+#[rustfmt::skip]
+pub fn gather(file: &[u8], row: usize, id: &[u8], buffer: &mut [u8]) -> Written {
+    unsafe { c::ads_gather(file.as_ptr(), file.len(), row, id.as_ptr(), id.len(), buffer.as_mut_ptr(), buffer.len()) }
+}
+
+pub fn listing(input: &[u8], buffer: &mut [u8]) -> Written {
+    unsafe { c::ads_listing(input.as_ptr(), input.len(), buffer.as_mut_ptr(), buffer.len()) }
+}
+
+/// Calls in which a length is claimed that is over 2^30, or over the buffer's, beside a pointer to few bytes.
+#[rustfmt::skip]
+pub mod claimed {
+    use super::{c, Description, Ends, ParentAnswer, Part, Reading, Table, Written};
+
+    const FEW: [u8; 8] = [0; 8];
+
+    fn few(length: usize) -> (*const u8, usize) {
+        assert!(length <= FEW.len() || length > 1 << 30);
+        (FEW.as_ptr(), length)
+    }
+
+    pub fn begin(mark: usize, recorder: usize, writer: usize, buffer: (&mut [u8; 400], usize)) -> Written {
+        assert!([mark, recorder, writer, buffer.1].iter().any(|&length| length > 1 << 30));
+        let (mark, recorder, writer) = (few(mark), few(recorder), few(writer));
+        unsafe {
+            c::ads_begin(b"LLC", mark.0, mark.1, &[b' '; 38], b"20240229", recorder.0, recorder.1,
+                b"20240229", writer.0, writer.1, buffer.0.as_mut_ptr(), buffer.1)
+        }
+    }
+
+    pub fn read(length: usize, table: &mut Table) -> Reading {
+        assert!(length > 1 << 30);
+        unsafe { c::ads_read(few(length).0, length, table.as_mut_ptr(), table.room()) }
+    }
+
+    pub fn parent(length: usize) -> ParentAnswer {
+        assert!(length > 1 << 30);
+        unsafe { c::ads_parent(few(length).0, length, 0, 0) }
+    }
+
+    pub fn contents(length: usize) -> Part {
+        assert!(length > 1 << 30);
+        unsafe { c::ads_contents(few(length).0, length, 0) }
+    }
+
+    pub fn gather(file: usize, id: usize, buffer: (&mut [u8; 8], usize)) -> Written {
+        assert!([file, id, buffer.1].iter().any(|&length| length > 1 << 30));
+        let (file, id) = (few(file), few(id));
+        unsafe { c::ads_gather(file.0, file.1, 0, id.0, id.1, buffer.0.as_mut_ptr(), buffer.1) }
+    }
+
+    /// The buffer of 8 bytes claimed as so long, the file's length, and lengths of specific data and contents.
+    pub fn append(buffer: (&mut [u8; 8], usize), length: usize, d: Description, specific: usize, contents: usize) -> Ends {
+        let texts = [d.subformat.given, d.recorder.given, d.writer.given];
+        let lengths = [buffer.1, specific, contents];
+        assert!(length > buffer.1 || lengths.iter().chain(&texts).any(|&length| length > 1 << 30));
+        let (specific, contents) = (few(specific), few(contents));
+        unsafe {
+            c::ads_append(buffer.0.as_mut_ptr(), buffer.1, length, d, [0].as_ptr(), 1,
+                specific.0, specific.1, contents.0, contents.1, false)
+        }
+    }
+
+    pub fn listing(input: usize, buffer: (&mut [u8; 8], usize)) -> Written {
+        assert!(buffer.1 > 1 << 30);
+        let input = few(input);
+        unsafe { c::ads_listing(input.0, input.1, buffer.0.as_mut_ptr(), buffer.1) }
+    }
+}

@@ -1,0 +1,23 @@
+//! The proved library, through its C interface, and `plain` on the same calls: every answer and every buffer must be
+//! equal.
+//!
+//! | module | holds |
+//! |---|---|
+//! | `ffi` | the C interface |
+//! | `random` | seeded numbers |
+//! | `build`, `generate` | files built field by field; valid files of every kind |
+//! | `damage` | damages of each kind of field |
+//! | `describe` | a chunk description for both |
+//! | `both` | each call with both, compared |
+//! | `tally` | how often each number of each call arose |
+//! | `parts` | the cases |
+
+pub mod both;
+pub mod build;
+pub mod damage;
+pub mod describe;
+pub mod ffi;
+pub mod generate;
+pub mod parts;
+pub mod random;
+pub mod tally;

@@ -1,0 +1,72 @@
+//! How often each number of each call arose.
+
+#[derive(Clone, Copy, Debug)]
+pub enum Call {
+    Begin,
+    Read,
+    Parent,
+    Append,
+    Contents,
+    Gather,
+    Listing,
+}
+
+/// Each call and the numbers that it can give.
+const CALLS: [(&str, &[u8]); 7] = [
+    ("begin", &[0, 2, 3, 6, 11, 15, 18]),
+    ("read", &[0, 1, 2, 3, 4, 5, 6, 7, 8, 9, 10, 11]),
+    ("parent", &[0, 11, 13, 14]),
+    ("append", &[0, 6, 9, 11, 12, 13, 15, 16, 17, 18]),
+    ("contents", &[0, 11, 13]),
+    ("gather", &[0, 11, 13, 14, 18]),
+    ("listing", &[0, 11, 18]),
+];
+
+#[derive(Default)]
+pub struct Tally {
+    times: [[u64; 19]; 7],
+}
+
+impl Tally {
+    pub fn note(&mut self, call: Call, number: u8) {
+        self.times[call as usize][usize::from(number)] += 1;
+    }
+
+    pub fn total(&self) -> u64 {
+        self.times.iter().flatten().sum()
+    }
+
+    pub fn print(&self) {
+        print!("{:>10}", "number");
+        for (name, _) in CALLS {
+            print!("{name:>10}");
+        }
+        println!("{:>10}", "all");
+        for number in 0..19 {
+            print!("{number:>10}");
+            for times in &self.times {
+                print!("{:>10}", times[number]);
+            }
+            println!("{:>10}", self.times.iter().map(|times| times[number]).sum::<u64>());
+        }
+        print!("{:>10}", "all");
+        for times in &self.times {
+            print!("{:>10}", times.iter().sum::<u64>());
+        }
+        println!("{:>10}", self.total());
+    }
+
+    /// Each number that a call can give arose, and no other; with 1 to 18 each one arose somewhere.
+    pub fn check(&self) {
+        for ((name, can), times) in CALLS.iter().zip(&self.times) {
+            for (number, &times) in times.iter().enumerate() {
+                let can = can.contains(&(number as u8));
+                assert_eq!(times > 0, can, "{name} gave number {number} {times} times");
+            }
+        }
+        for number in 1..=18 {
+            assert!(self.times.iter().any(|times| times[number] > 0), "no call gave number {number}");
+        }
+        assert!(self.total() >= 200_000, "{} calls are too few", self.total());
+    }
+}

@@ -1,0 +1,43 @@
+//! SEG-UKOOA ADS metafiles 1.00, the chunk table, in plain safe Rust: another implementation of the specification,
+//! written from its text alone, to compare the proved library with.
+//!
+//! | module | holds |
+//! |---|---|
+//! | `number` | the numbers of a refusal |
+//! | `field` | text fields judged and valued; sums |
+//! | `fields` | fields read in file order |
+//! | `header` | the file header |
+//! | `chunk`, `multi` | one chunk; the contents of a MultiChunk |
+//! | `reading` | the chunks one after another; `read` |
+//! | `writer` | lines written into a lent buffer |
+//! | `begin`, `append` | the calls that write a file |
+//! | `parent`, `part` | `parent`; `contents` and `gather` |
+//! | `listing` | the text of the listing |
+#![forbid(unsafe_code)]
+
+mod append;
+mod begin;
+mod chunk;
+mod description;
+pub mod field;
+mod fields;
+mod header;
+mod listing;
+mod multi;
+pub mod number;
+mod parent;
+mod part;
+mod reading;
+mod writer;
+
+pub use append::{append, Ends};
+pub use begin::{begin, Beginning};
+pub use description::Description;
+pub use field::Serial;
+pub use listing::listing;
+pub use parent::{parent, Parent};
+pub use part::{contents, gather};
+pub use reading::{read, Reading, Row};
+
+/// An I12 and the places of a file of 2^30 bytes are held as `usize`.
+const _: () = assert!(usize::BITS >= 64);
