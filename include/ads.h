@@ -145,7 +145,8 @@ typedef struct ads_description {
 } ads_description;
 
 /* Each function takes a description by value and hands it back with one field set. Nothing is judged here: a text of any
-   length is taken, and ads_append refuses what is out of form, over-long or was never set (6). */
+   length is taken, and ads_append refuses what is out of form or over-long (6); of fields never set, too, all but the
+   sub-format, which is then an empty text. */
 ads_description ads_description_new(void);
 
 /* SubFormat_ID, at most 256 bytes. */

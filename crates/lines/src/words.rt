@@ -43,5 +43,8 @@ pub fn is_word(s: &[u8], at: usize, w: usize) -> bool
 pub fn begins_mini(s: &[u8]) -> bool
     ensures { λ r. ⌜ r ≡ starts miniLabel (now (s .entry)) ⌝ }
 {
-    search::begins(b"MiniChunk=", s)
+    if s.len() < 10 {
+        return false;
+    }
+    search::same_bytes(&s[..10], b"MiniChunk=")
 }

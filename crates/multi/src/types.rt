@@ -31,7 +31,7 @@ pub fn is_kept(id: &[u8], ids: &[u8], n: usize) -> bool
     let mut i: usize = 0;
     while i < n {
         let from = i * 10;
-        if search::agree(id, &ids[from..from + 10]) {
+        if search::same_bytes(id, &ids[from..from + 10]) {
             return true;
         }
         i += 1;

@@ -24,8 +24,8 @@ pub fn same_bytes(a: &[u8], b: &[u8]) -> bool
     good
 }
 
-// The same bytes, compared up to the first that differs: for a mark or a short ID, which is tried at many places.
-pub fn agree(a: &[u8], b: &[u8]) -> bool
+// The same bytes, compared up to the first that differs: for a mark, which is tried at many places.
+fn agree(a: &[u8], b: &[u8]) -> bool
     ensures { λ r. ⌜ r ≡ same (now (a .entry)) (now (b .entry)) ⌝ }
 {
     if a.len() != b.len() {

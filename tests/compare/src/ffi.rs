@@ -3,6 +3,8 @@
 //! A safe function passes the pointer and length of a slice. The functions of `claimed` pass a length of their own
 //! beside a pointer; the library is to refuse it (11) before it looks at a byte.
 
+use std::sync::OnceLock;
+
 use plain::{Beginning, Serial};
 
 /// One row of the table, 104 bytes.
@@ -202,44 +204,76 @@ impl Default for Description {
     }
 }
 
-#[rustfmt::skip]
-pub fn begin(given: &Beginning, buffer: &mut [u8]) -> Written {
-    let Beginning { strategy, mark, serial, recorded, recorder, written, writer } = given;
-    unsafe {
-        c::ads_begin(strategy, mark.as_ptr(), mark.len(), serial, recorded, recorder.as_ptr(), recorder.len(),
-            written, writer.as_ptr(), writer.len(), buffer.as_mut_ptr(), buffer.len())
+/// Under ADS_EXACT every slice is lent as a copy on the heap that is as long as the slice, so that a checker of memory
+/// sees the first byte before or behind it.
+fn exact(long: usize) -> bool {
+    static ASKED: OnceLock<bool> = OnceLock::new();
+    *ASKED.get_or_init(|| std::env::var_os("ADS_EXACT").is_some()) && long <= 1 << 24
+}
+
+fn lent<R>(bytes: &[u8], call: impl FnOnce(&[u8]) -> R) -> R {
+    if exact(bytes.len()) {
+        call(&Box::<[u8]>::from(bytes))
+    } else {
+        call(bytes)
     }
 }
 
+fn lent_mut<R>(bytes: &mut [u8], call: impl FnOnce(&mut [u8]) -> R) -> R {
+    if exact(bytes.len()) {
+        let mut copy = Box::<[u8]>::from(&*bytes);
+        let answer = call(&mut copy);
+        bytes.copy_from_slice(&copy);
+        answer
+    } else {
+        call(bytes)
+    }
+}
+
+#[rustfmt::skip]
+pub fn begin(given: &Beginning, buffer: &mut [u8]) -> Written {
+    let Beginning { strategy, mark, serial, recorded, recorder, written, writer } = given;
+    lent(mark, |mark| lent(recorder, |recorder| lent(writer, |writer| lent_mut(buffer, |buffer| unsafe {
+        c::ads_begin(strategy, mark.as_ptr(), mark.len(), serial, recorded, recorder.as_ptr(), recorder.len(),
+            written, writer.as_ptr(), writer.len(), buffer.as_mut_ptr(), buffer.len())
+    }))))
+}
+
 pub fn read(file: &[u8], table: &mut Table) -> Reading {
-    unsafe { c::ads_read(file.as_ptr(), file.len(), table.as_mut_ptr(), table.room()) }
+    lent(file, |file| unsafe { c::ads_read(file.as_ptr(), file.len(), table.as_mut_ptr(), table.room()) })
 }
 
 pub fn parent(file: &[u8], row: usize, dependency: usize) -> ParentAnswer {
-    unsafe { c::ads_parent(file.as_ptr(), file.len(), row, dependency) }
+    lent(file, |file| unsafe { c::ads_parent(file.as_ptr(), file.len(), row, dependency) })
 }
 
 #[rustfmt::skip]
 pub fn append(
     buffer: &mut [u8], length: usize, description: Description, parents: &[usize], specific: &[u8], contents: &[u8], open: bool,
 ) -> Ends {
-    unsafe {
+    lent(specific, |specific| lent(contents, |contents| lent_mut(buffer, |buffer| unsafe {
         c::ads_append(buffer.as_mut_ptr(), buffer.len(), length, description, parents.as_ptr(), parents.len(),
             specific.as_ptr(), specific.len(), contents.as_ptr(), contents.len(), open)
-    }
+    })))
 }
 
 pub fn contents(file: &[u8], row: usize) -> Part {
-    unsafe { c::ads_contents(file.as_ptr(), file.len(), row) }
+    lent(file, |file| unsafe { c::ads_contents(file.as_ptr(), file.len(), row) })
 }
 
 #[rustfmt::skip]
 pub fn gather(file: &[u8], row: usize, id: &[u8], buffer: &mut [u8]) -> Written {
-    unsafe { c::ads_gather(file.as_ptr(), file.len(), row, id.as_ptr(), id.len(), buffer.as_mut_ptr(), buffer.len()) }
+    lent(file, |file| lent(id, |id| lent_mut(buffer, |buffer| unsafe {
+        c::ads_gather(file.as_ptr(), file.len(), row, id.as_ptr(), id.len(), buffer.as_mut_ptr(), buffer.len())
+    })))
 }
 
 pub fn listing(input: &[u8], buffer: &mut [u8]) -> Written {
-    unsafe { c::ads_listing(input.as_ptr(), input.len(), buffer.as_mut_ptr(), buffer.len()) }
+    lent(input, |input| {
+        lent_mut(buffer, |buffer| unsafe {
+            c::ads_listing(input.as_ptr(), input.len(), buffer.as_mut_ptr(), buffer.len())
+        })
+    })
 }
 
 /// Calls in which a length is claimed that is over 2^30, or over the buffer's, beside a pointer to few bytes.

@@ -27,27 +27,27 @@ loop-holds c =
 mul-from : tie.Need-mul-from Inv-loop μ-loop
 mul-from c = omega arith
 
-add-agree : tie.Need-add-agree Inv-loop μ-loop
-add-agree c = omega arith
+add-same-bytes : tie.Need-add-same-bytes Inv-loop μ-loop
+add-same-bytes c = omega arith
 
-sub-agree : tie.Need-sub-agree Inv-loop μ-loop
-sub-agree c = omega arith
+sub-same-bytes : tie.Need-sub-same-bytes Inv-loop μ-loop
+sub-same-bytes c = omega arith
 
-part-agree-start : tie.Need-part-agree-start Inv-loop μ-loop
-part-agree-start c = omega arith
+part-same-bytes-start : tie.Need-part-same-bytes-start Inv-loop μ-loop
+part-same-bytes-start c = omega arith
 
-part-agree-end : tie.Need-part-agree-end Inv-loop μ-loop
-part-agree-end c = omega arith
+part-same-bytes-end : tie.Need-part-same-bytes-end Inv-loop μ-loop
+part-same-bytes-end c = omega arith
 
-agree-requires : tie.Need-agree-requires Inv-loop μ-loop
-agree-requires c κs = search needs
+same-bytes-requires : tie.Need-same-bytes-requires Inv-loop μ-loop
+same-bytes-requires c κs = search needs
 
 returns : tie.Need-returns Inv-loop μ-loop
 returns c =
     let a = c .before .before .before .before .before .before .before .args in
     let l = c .before .before .before .before .loop in
     kept-here (a .id .now) (a .ids .now) (a .n) (l .i) (omega arith) (l .inv .2)
-    (compared _ _ (a .id .now) (l .i * 10) _ 10 (a .ids .now) (c .before .agree .ensures) (omega arith)
+    (compared _ _ (a .id .now) (l .i * 10) _ 10 (a .ids .now) (c .before .same-bytes .ensures) (omega arith)
     (c .if1 .taken))
 
 add-i : tie.Need-add-i Inv-loop μ-loop
@@ -60,7 +60,7 @@ loop-again : tie.Need-loop-again Inv-loop μ-loop
 loop-again c =
     let a = c .before .before .before .before .before .before .before .args in
     let l = c .before .before .before .before .loop in
-    let other = compared _ _ (a .id .now) (l .i * 10) _ 10 (a .ids .now) (c .before .agree .ensures)
+    let other = compared _ _ (a .id .now) (l .i * 10) _ 10 (a .ids .now) (c .before .same-bytes .ensures)
     (omega arith) (c .if1 .left) in
     (omega arith, omega arith, kept-next (a .id .now) (a .ids .now) (a .n) (l .i) (omega arith) (l .inv .2) other)
 
@@ -77,11 +77,11 @@ is-kept-spec =
     μ-loop
     loop-holds
     mul-from
-    add-agree
-    sub-agree
-    part-agree-start
-    part-agree-end
-    agree-requires
+    add-same-bytes
+    sub-same-bytes
+    part-same-bytes-start
+    part-same-bytes-end
+    same-bytes-requires
     returns
     add-i
     loop-less
