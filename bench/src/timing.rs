@@ -4,10 +4,8 @@ use std::time::{Duration, Instant};
 
 const ENOUGH: Duration = Duration::from_millis(2500);
 
-pub struct Times {
-    pub proved: f64,
-    pub plain: f64,
-}
+/// A call, and how often it is made in one turn: short ones more often than long ones.
+pub type Call<'a> = (usize, &'a mut dyn FnMut());
 
 /// Seconds that one call takes.
 fn once(call: &mut dyn FnMut()) -> Duration {
@@ -16,23 +14,21 @@ fn once(call: &mut dyn FnMut()) -> Duration {
     start.elapsed()
 }
 
-/// The best of several calls of each, in turns: at least five (fewer if they take long), and more while there is time.
-pub fn best(calls: &mut [&mut dyn FnMut()]) -> Vec<f64> {
+/// The best of each call, in turns: at least five turns (fewer if they take long), and more while there is time.
+pub fn best(calls: &mut [Call]) -> Vec<f64> {
     let mut times = vec![Duration::MAX; calls.len()];
+    let enough = ENOUGH * calls.len() as u32 / 2;
     let start = Instant::now();
     for turn in 0.. {
         let passed = start.elapsed();
-        if turn >= 5 && passed > ENOUGH || turn >= 1 && passed > 4 * ENOUGH || turn >= 200 {
+        if turn >= 5 && passed > enough || turn >= 1 && passed > 4 * enough || turn >= 200 {
             break;
         }
-        for (call, best) in calls.iter_mut().zip(&mut times) {
-            *best = once(*call).min(*best);
+        for ((repeated, call), best) in calls.iter_mut().zip(&mut times) {
+            for _ in 0..*repeated {
+                *best = once(*call).min(*best);
+            }
         }
     }
     times.iter().map(Duration::as_secs_f64).collect()
-}
-
-pub fn both(proved: &mut dyn FnMut(), plain: &mut dyn FnMut()) -> Times {
-    let times = best(&mut [proved, plain]);
-    Times { proved: times[0], plain: times[1] }
 }

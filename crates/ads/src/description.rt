@@ -6,7 +6,7 @@ ghost use Rattle.metafile.specs.Lines.{ALT, SLV, MAS};
 ghost use Rattle.metafile.specs.Description.{nothingGiven, withSubFormat, withGenericType, withSynchType, withStandard, withOffset, withEvent, withSerial, withRecording, withWriting};
 use metafile::Description;
 
-// Nothing given: append refuses what is left so (6).
+// Nothing given: append refuses what is left so (6), but for the texts, which are empty then.
 #[no_mangle]
 pub extern "C" fn ads_description_new() -> Description
     ensures { λ r. ⌜ r ≡ nothingGiven ⌝ }

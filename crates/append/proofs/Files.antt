@@ -28,9 +28,8 @@ use Rattle.chunk_laws.proofs.File.{header-whole, length-mark, fits-title}
 use Rattle.chunk_laws.proofs.Places.{Placed, row-placed, row-inside, serial-taken, subFormat-taken}
 use Rattle.walk.proofs.Stages.{mark-part, mark-inside, header-number, HeaderIs, header-is}
 use Rattle.walk.specs.declared.answers.Header.{Header}
-use Rattle.walk.proofs.Index.{serial-place-is, serial-place-some, serial-place-inside}
+use Rattle.walk.proofs.Serials.{serialPlace, serial-place-is, serial-place-some, serial-place-inside}
 use Rattle.walk.specs.Walk.{headerOf}
-use Rattle.walk.specs.Index.{serialPlace}
 use Rattle.begin.proofs.Values.{placed-start, spaces}
 use Rattle.append.specs.Values.{joined, valuesAt}
 use Rattle.append.proofs.Joined.{put-next}

@@ -1,5 +1,5 @@
 -- The header of a chunk, as its functions read it ("Lines in order: ..", "A length is tested once ..").
---     multi-name          the sub-format of a MultiChunk: 18 bytes and spaces
+--     multi-name(-not)    the sub-format of a MultiChunk: 18 bytes and spaces; other 18 bytes
 --     head-split head-begun head-long   the lines up to the dependency count
 --     dependencies-below header-below offset-formed   what they say of their values
 --     lengths-..          the answers on the two lengths; header-bytes-is: the header's bytes
@@ -44,9 +44,13 @@ name-split v h =
     sym (same-append (take 18 v) (drop 18 v) (bytes "ADS\\SYS\\MultiChunk") (replicate 238 32) (length-take-le 18 v (omega arith)))
     ∙ ap (λ (u : List ℕ). same u multiName) (take-append-drop 18 v)
 
-pub multi-name : (v : List ℕ) (a b : Bool) → length v ≡ 256 → a ≡ same (take 18 v) (bytes "ADS\\SYS\\MultiChunk")
-    → b ≡ same (take (length v - 18) (drop 18 v)) (replicate 238 32) → (a && b) ≡ same v multiName
-multi-name v a b h ea eb = rw (ea, rw part-drop at eb) (name-split v h)
+module _ (v : List ℕ) where
+  pub multi-name : (b : Bool) → length v ≡ 256 → true ≡ same (take 18 v) (bytes "ADS\\SYS\\MultiChunk")
+      → b ≡ same (take (length v - 18) (drop 18 v)) (replicate 238 32) → b ≡ same v multiName
+  multi-name b h ea eb = rw part-drop at eb ∙ rw (← ea) at (name-split v h)
+
+  pub multi-name-not : length v ≡ 256 → false ≡ same (take 18 v) (bytes "ADS\\SYS\\MultiChunk") → false ≡ same v multiName
+  multi-name-not h ea = rw (← ea) at (name-split v h)
 
 -- ---- the lines up to the dependency count
 

@@ -10,7 +10,7 @@ use multi::Part;
 fn length_line_fault(r: &[u8], llc: bool) -> u8
     ensures { λ n. ⌜ n ≡ lengthLineFault llc (now (r .entry)) ⌝ }
 {
-    let fault = lines::opened_fault(r, 0, 11);
+    let fault = lines::content_length_fault(r);
     if fault != 0 {
         return fault;
     }

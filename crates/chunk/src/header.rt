@@ -16,8 +16,11 @@ pub fn is_multi_name(id: &[u8]) -> bool
     requires { ⌜ length (now id) ≡ 256 ⌝ }
     ensures { λ r. ⌜ r ≡ same (now (id .entry)) multiName ⌝ }
 {
-    let spaces = [b' '; 238];
-    search::same_bytes(&id[..18], b"ADS\\SYS\\MultiChunk") & search::same_bytes(&id[18..], &spaces)
+    if search::same_bytes(&id[..18], b"ADS\\SYS\\MultiChunk") {
+        let spaces = [b' '; 238];
+        return search::same_bytes(&id[18..], &spaces);
+    }
+    false
 }
 
 pub fn is_multi(s: &[u8]) -> bool
@@ -54,7 +57,7 @@ fn head_fault(s: &[u8]) -> u8
     if fault != 0 {
         return fault;
     }
-    lines::opened_fault(s, 540, 8)
+    lines::dependency_count_fault(s)
 }
 
 // The dependency length, then the header length; a MultiChunk has no specific data.

@@ -21,7 +21,7 @@ pub use parts::Layout;
 pub use rows::chunk_serial;
 pub use rows::row;
 ghost use mathlib.Core.Path.{_≡_};
-ghost use Rattle.metafile.specs.Chunk.{chunkFault};
+ghost use Rattle.metafile.specs.Chunk.{isMulti, headerBytes, chunkFault};
 ghost use Rattle.chunk.specs.Layout.{faulty, partsOf, layoutOf};
 
 fn refused(number: u8) -> Layout
@@ -71,13 +71,12 @@ pub fn layout(s: &[u8], llc: bool, mark: &[u8]) -> Layout
     }
 }
 
-// Where the parts of a chunk known to be whole stand: no label and no text is judged again.
-pub fn parts_of(s: &[u8], llc: bool, mark: &[u8]) -> Layout
+// Where the parts of a chunk known to be whole stand, by its header's bytes and its sort.
+fn known_parts(s: &[u8], header: usize, multichunk: bool, llc: bool, mark: &[u8]) -> Layout
     requires { ⌜ chunkFault llc (now mark) (now s) ≡ 0 ⌝ }
+    requires { ⌜ (header ≡ headerBytes (now s)) × (multichunk ≡ isMulti (now s)) ⌝ }
     ensures { λ r. ⌜ r ≡ partsOf (now (mark .entry)) (now (s .entry)) ⌝ }
 {
-    let header = header::header_bytes(s);
-    let multichunk = header::is_multi(s);
     let bytes = contents::whole_bytes(&s[header..], multichunk, llc, mark);
     let contents = header + contents::contents_from(multichunk);
     let end = contents + bytes + mark.len() + 254 + mark.len();
@@ -90,4 +89,23 @@ pub fn parts_of(s: &[u8], llc: bool, mark: &[u8]) -> Layout
         dependencies: header::dependencies(s),
         multichunk,
     }
+}
+
+// A header without dependencies and specific data, which most chunks have.
+const LEAST: usize = 568;
+
+// Where the parts of a chunk known to be whole stand: no label and no text is judged again. Behind the least header the
+// content length stands at a constant place, so that it is fetched without waiting for the header's length.
+pub fn parts_of(s: &[u8], llc: bool, mark: &[u8]) -> Layout
+    requires { ⌜ chunkFault llc (now mark) (now s) ≡ 0 ⌝ }
+    ensures { λ r. ⌜ r ≡ partsOf (now (mark .entry)) (now (s .entry)) ⌝ }
+{
+    let header = header::header_bytes(s);
+    if header::is_multi(s) {
+        return known_parts(s, header, true, llc, mark);
+    }
+    if header == LEAST {
+        return known_parts(s, LEAST, false, llc, mark);
+    }
+    known_parts(s, header, false, llc, mark)
 }

@@ -7,7 +7,7 @@
 --     powers-at                              the table of powers
 --     whole-le, decimal-value                the value as the code adds it up
 -- Assumes nothing.
-use Prim.Native.Nat.{ℕ, zero, suc, _+_, _-_, _*_, _^_, _≤_, _<_}
+use Prim.Native.Nat.{ℕ, suc, _+_, _-_, _*_, _^_, _≤_, _<_}
 use mathlib.Core.Path.{_≡_, refl, sym, ap, _∙_}
 use mathlib.Core.List.{List, [], _∷_}
 use native.Mathlib.Omega.{arith}
@@ -21,6 +21,7 @@ use Rattle.metafile.specs.Fields.{isDigit, isSpace, number, takeWhile, dropWhil
 use Rattle.fields.proofs.Bools.{test}
 use Rattle.fields.proofs.Prefix.{prefix-le, rest-le, rest-stops}
 use Rattle.fields.proofs.Digits.{number-append, digits-below}
+use Rattle.fields.proofs.Tables.{table, table-at}
 
 -- ---- the point
 
@@ -95,18 +96,6 @@ module _ (v : List ℕ) (l : length v ≡ 11) where
       (λ e. rw e (sym (le-ltb (decimalUnits v) (60 * 10 ^ 10) (omega (arith, ltb-false b 60 e, decimal-units)))))
 
 -- ---- the table of powers
-
-table : (ℕ → ℕ) → ℕ → ℕ → List ℕ
-table f i zero = []
-table f i (suc n) = f i ∷ table f (suc i) n
-
-table-at : (f : ℕ → ℕ) (i n k : ℕ) → k < n → getD (table f i n) k 0 ≡ f (i + k)
-unfolding table
-table-at f i zero k h = absurd (omega arith)
-table-at f i (suc n) zero h = ap f (omega arith)
-table-at f i (suc n) (suc k) h =
-    let e : suc i + k ≡ i + suc k = omega arith in
-    table-at f (suc i) n k (omega arith) ∙ ap f e
 
 abbrev pub powers : List ℕ
 powers = 1 ∷ 10 ∷ 100 ∷ 1000 ∷ 10000 ∷ 100000 ∷ 1000000 ∷ 10000000 ∷ 100000000 ∷ 1000000000 ∷ 10000000000 ∷ []

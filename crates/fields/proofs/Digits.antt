@@ -1,21 +1,22 @@
 -- Numbers in digits ("a number field In is n digits 0 to 9"), total on bytes: a byte counts what it is above 48, at
 -- most 207.
---     Small n x                             x is at most what n bytes come to
---     small-none, small-more, small-fits    of no byte, of one more, of at most 12: it fits 64 bits
---     number-more, number-end               a loop's step: one byte more, no byte left
---     number-append                         the number of two runs of bytes, one behind the other
---     digits-below                          n digits come to less than 10^n
---     digits-to                             what the test tells
+--     Small p x                 x is at most what n bytes come to, where p is 10^n
+--     small-more, small-fits    with one byte more; of at most 12 it fits 64 bits
+--     power-le                  the power before the twelfth byte
+--     number-none               a loop from the last byte on, before its first turn
+--     power-more, number-more   its step: one byte more in front
+--     number-append             the number of two runs of bytes, one behind the other
+--     digits-below              n digits come to less than 10^n
+--     digits-to                 what the test tells
 -- Assumes nothing.
-use Prim.Native.Nat.{ℕ, _+_, _-_, _*_, _^_, _≤_, _<_}
+use Prim.Native.Nat.{ℕ, suc, _+_, _-_, _*_, _^_, _≤_, _<_}
 use mathlib.Core.Bool.{true}
 use mathlib.Core.Path.{_≡_, refl, _∙_}
 use mathlib.Core.List.{List, [], _∷_, _++_}
 use native.Mathlib.Omega.{arith}
-use native.Mathlib.Numerals.{add-one}
 use native.Mathlib.Nat.{pow-le-pow-right, pow-suc, mul-le-mul-right}
 use lib.Dec.{leb}
-use lib.ListN.{length, drop, getD, drop-of-length-le}
+use lib.ListN.{length, drop, getD, drop-of-length-le, length-drop}
 use lib.Seq.{drop-cons}
 use borrow.Author.Tests.{leb-true}
 use Rattle.metafile.specs.Bytes.{all}
@@ -25,32 +26,18 @@ use Rattle.fields.proofs.Bools.{test, and-right}
 -- ---- bounds
 
 abbrev pub Small : ℕ → ℕ → Type 0
-Small n x = x + 23 ≤ 23 * 10 ^ n
+Small p x = x + 23 ≤ 23 * p
 
-pub small-none : Small 0 0
-small-none = omega arith
+pub small-more : (p x d : ℕ) → d ≤ 207 → Small p x → Small (p * 10) (x + d * p)
+small-more p x d h e = omega (arith, mul-le-mul-right p h)
 
-pub small-more : (n x d : ℕ) → d ≤ 207 → Small n x → Small (n + 1) (x * 10 + d)
-small-more n x d h e = rw add-one (omega arith)
+pub small-fits : (p x d : ℕ) → p ≤ 10 ^ 11 → d ≤ 207 → Small p x → x + d * p < 2 ^ 64
+small-fits p x d l h e = omega (arith, mul-le-mul-right p h)
 
-pub small-fits : (n x d : ℕ) → n < 12 → d ≤ 207 → Small n x → x * 10 + d < 2 ^ 64
-small-fits n x d h l e =
-    let t : 10 ^ n ≤ 10 ^ 12 = pow-le-pow-right {n = 10} (omega arith) {i = n} {j = 12} (omega arith) in
-    omega arith
+pub power-le : (n p : ℕ) → n ≤ 11 → p ≡ 10 ^ n → p ≤ 10 ^ 11
+power-le n p h e = rw e (pow-le-pow-right {n = 10} (omega arith) {i = n} {j = 11} h)
 
 -- ---- the loop
-
-module _ (s : List ℕ) (x i : ℕ) where
-  pub number-more : i < length s → number s ≡ numberFrom x (drop i s)
-      → number s ≡ numberFrom (x * 10 + (getD s i 0 - 48)) (drop (i + 1) s)
-  unfolding numberFrom
-  number-more h e = e ∙ rw (add-one, drop-cons s i 0 h)
-
-  pub number-end : length s ≤ i → number s ≡ numberFrom x (drop i s) → x ≡ number s
-  unfolding numberFrom
-  number-end h e = rw (e, drop-of-length-le s h)
-
--- ---- two runs, and the number's size
 
 numberFrom-is : (x : ℕ) (s : List ℕ) → numberFrom x s ≡ x * 10 ^ length s + numberFrom 0 s
 unfolding numberFrom
@@ -59,6 +46,27 @@ numberFrom-is x (d ∷ s) =
     let a = numberFrom-is (x * 10 + (d - 48)) s in
     let b = numberFrom-is (0 * 10 + (d - 48)) s in
     rw (a, b, pow-suc) (omega arith)
+
+module _ (s : List ℕ) where
+  pub number-none : 0 ≡ number (drop (length s) s)
+  unfolding number numberFrom
+  number-none = rw (drop-of-length-le s {i = length s} (omega arith))
+
+  module _ (i p : ℕ) (h : 0 < i) (l : i ≤ length s) (e : p ≡ 10 ^ (length s - i)) where
+    pub power-more : p * 10 ≡ 10 ^ (length s - (i - 1))
+    power-more =
+        let n : length s - (i - 1) ≡ suc (length s - i) = omega arith in
+        rw (n, pow-suc) (omega arith)
+
+    pub number-more : (x : ℕ) → x ≡ number (drop i s) → x + (getD s (i - 1) 0 - 48) * p ≡ number (drop (i - 1) s)
+    unfolding number numberFrom
+    number-more x q =
+        let n : suc (i - 1) ≡ i = omega arith in
+        let k : i - 1 < length s = omega arith in
+        let d = getD s (i - 1) 0 - 48 in
+        rw (drop-cons s (i - 1) 0 k, n, numberFrom-is (0 * 10 + d) (drop i s), length-drop, ← e, ← q) (omega arith)
+
+-- ---- two runs, and the number's size
 
 numberFrom-append : (x : ℕ) (s t : List ℕ) → numberFrom x (s ++ t) ≡ numberFrom (numberFrom x s) t
 unfolding numberFrom

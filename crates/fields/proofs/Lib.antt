@@ -1,6 +1,7 @@
 -- Bools      truth values
 -- Prefix     the longest beginning of bytes that pass a test
 -- Digits     numbers in digits
+-- Tables     a function's values in a list
 -- Calendar   the days of a month
 -- Decimal    the parts of a decimal, and its value
 -- Same       bytes compared and copied
@@ -8,6 +9,7 @@
 pub mod Bools
 pub mod Prefix
 pub mod Digits
+pub mod Tables
 pub mod Calendar
 pub mod Decimal
 pub mod Same

@@ -11,16 +11,17 @@ fn leap(year: u64) -> bool
     (year % 4 == 0) & ((year % 100 != 0) | (year % 400 == 0))
 }
 
-// The days of a month; no days where there is no such month.
+// The days of a month; no days where there is no such month. From August on the even months have 31.
 fn month_days(year: u64, month: u64) -> u64
     ensures { λ r. ⌜ r ≡ monthDays year month ⌝ }
 {
-    if month > 12 {
+    if (month == 0) | (12 < month) {
         return 0;
     }
-    let february = 28 + leap(year) as u64;
-    let days: [u64; 13] = [0, 31, february, 31, 30, 31, 30, 31, 31, 30, 31, 30, 31];
-    days[month as usize]
+    if month == 2 {
+        return 28 + leap(year) as u64;
+    }
+    30 + (month + month / 8) % 2
 }
 
 pub fn is_date(s: &[u8]) -> bool

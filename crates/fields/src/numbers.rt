@@ -60,16 +60,18 @@ fn digit(x: u8) -> u64
     (x - 48) as u64
 }
 
-// The number that digits come to.
+// The number that digits come to, from the last on: no product waits for the sum.
 pub fn number(s: &[u8]) -> u64
     requires { ⌜ length (now s) ≤ 12 ⌝ }
     ensures { λ r. ⌜ r ≡ number (now (s .entry)) ⌝ }
 {
     let mut value: u64 = 0;
-    let mut i: usize = 0;
-    while i < s.len() {
-        value = value * 10 + digit(s[i]);
-        i += 1;
+    let mut power: u64 = 1;
+    let mut left: usize = s.len();
+    while 0 < left {
+        left -= 1;
+        value = value + digit(s[left]) * power;
+        power = power * 10;
     }
     value
 }

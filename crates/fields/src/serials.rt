@@ -31,14 +31,7 @@ pub fn is_serial(serial: [u8; 38]) -> bool
 pub fn same_serial(a: [u8; 38], b: [u8; 38]) -> bool
     ensures { λ r. ⌜ r ≡ sameSerial a b ⌝ }
 {
-    let mut i: usize = 0;
-    while i < 38 {
-        if a[i] != b[i] {
-            return false;
-        }
-        i += 1;
-    }
-    true
+    search::same_bytes(&a[..], &b[..])
 }
 
 // The serial number at the start of a slice.

@@ -1,4 +1,4 @@
--- Loops   what the loops over a serial number and over the entries need
--- Laws    what the entries hold: none, one place more; what a search among them says
+-- Loops   what the functions over a serial number and over the slots need
+-- Laws    what an index holds: nothing, one serial number more; what a vacant slot says
 pub mod Loops
 pub mod Laws

@@ -1,69 +1,65 @@
--- Serial numbers that a reading has met, by their places in the file: "9 whole chunk, serial already in a row". An entry is
--- the place of a serial number's 38 bytes, or 0 where nothing is entered. The search for a serial number begins at a slot
--- made of its first 35 bytes and goes on to the first empty one. Assumes nothing.
-use Prim.Native.Nat.{ℕ, zero, suc, _+_, _*_, _%_, _<_}
+-- Serial numbers that a reading has met, by a tag of each: "9 whole chunk, serial already in a row". An index is a count, which
+-- is its user's, and slots behind it. A slot has a tag, or 0 where nothing is entered. Tag and slot are made of a hash of a
+-- serial number's first 35 bytes; the search for the tag begins at the slot and goes on to the first empty one. Assumes nothing.
+use Prim.Native.Nat.{ℕ, suc, _+_, _*_, _%_}
 use mathlib.Core.Bool.{Bool, true, false, cond, _||_}
 use mathlib.Core.Path.{_≡_}
-use mathlib.Core.List.{List, [], _∷_, map}
-use lib.Dec.{eqb, leb}
+use mathlib.Core.List.{List, [], _∷_}
+use lib.Dec.{eqb}
 use lib.ListN.{length, drop}
-use Rattle.metafile.specs.Bytes.{part, all, isZero}
-use Rattle.metafile.specs.Fields.{sameSerial}
-use Rattle.metafile.specs.Append.{isIn}
+use Rattle.metafile.specs.Bytes.{part, isZero}
+use Rattle.metafile.specs.Fields.{known}
 
--- ---- the slot
+-- ---- the hash
 
--- bytes as one number to the base 4093, the first byte highest, behind another number
+-- bytes as one number to the base 509, the first byte highest, behind another number
 unfoldable pub joinedBytes : ℕ → List ℕ → ℕ
 joinedBytes n [] = n
-joinedBytes n (x ∷ xs) = joinedBytes (n * 4093 + x) xs
+joinedBytes n (x ∷ xs) = joinedBytes (n * 509 + x) xs
 
--- n times five bytes, modulo the prime 2^31 - 1
-unfoldable pub mixedFrom : ℕ → ℕ → List ℕ → ℕ
-mixedFrom zero m x = m
-mixedFrom (suc n) m x = mixedFrom n ((m * 48271 + joinedBytes 0 (part 0 5 x)) % 2147483647) (drop 5 x)
+-- five bytes for each weight
+unfoldable pub weightedFrom : List ℕ → List ℕ → ℕ
+weightedFrom [] x = 0
+weightedFrom (w ∷ ws) x = joinedBytes 0 (part 0 5 x) * w + weightedFrom ws (drop 5 x)
 
--- its square, so that serial numbers which differ by a count don't stand side by side
-unfoldable pub slotOf : List ℕ → ℕ
-slotOf x = mixedFrom 7 0 x * mixedFrom 7 0 x % 2147483647 % 196613
+unfoldable pub weights : List ℕ
+weights = 48271 ∷ 69621 ∷ 16807 ∷ 39373 ∷ 62089 ∷ 95353 ∷ 111913 ∷ []
 
--- ---- the entries from a slot on
+unfoldable pub hashOf : List ℕ → ℕ
+hashOf x = weightedFrom weights x
 
--- 0: an empty slot comes first, the serial number is new; 1: an entry with it comes first; 2: neither
-unfoldable pub lookedUp : List ℕ → List ℕ → List ℕ → ℕ
-lookedUp file serial [] = 2
-lookedUp file serial (x ∷ xs) = cond (isZero x) 0 (cond (sameSerial serial (part x 38 file)) 1 (lookedUp file serial xs))
+-- ---- the slots
 
-unfoldable pub hasEmpty : List ℕ → Bool
-hasEmpty [] = false
-hasEmpty (x ∷ xs) = isZero x || hasEmpty xs
+-- the tag of a hash: modulo the prime 2^32 - 5, and never 0
+unfoldable pub tagOf : ℕ → ℕ
+tagOf h = 1 + h % 4294967291
 
--- a place in the first empty slot
-unfoldable pub entered : ℕ → List ℕ → List ℕ
-entered p [] = []
-entered p (x ∷ xs) = cond (isZero x) (p ∷ xs) (x ∷ entered p xs)
+-- its slot: modulo another prime, 2^31 - 1, so that tag and slot seldom agree both; and squared, so that hashes which differ
+-- by a count don't stand side by side
+unfoldable pub slotOf : ℕ → ℕ
+slotOf h = (h % 2147483647) * (h % 2147483647) % 2147483647 % 196613
 
--- p stands before the first empty slot
+-- the first of these entries that is empty or t
+unfoldable pub firstOf : ℕ → List ℕ → ℕ
+firstOf t [] = 0
+firstOf t (x ∷ xs) = cond (isZero x || eqb x t) 0 (suc (firstOf t xs))
+
+-- the count, 196613 slots, and 4091 behind them for a search that begins at one of the last
+unfoldable pub size : ℕ
+size = 200705
+
+-- the place of h: the first entry of the index, from its slot on, that is empty or its tag
+unfoldable pub placeFor : ℕ → List ℕ → ℕ
+placeFor h index = 1 + slotOf h + firstOf (tagOf h) (drop (1 + slotOf h) index)
+
+-- ---- what the index holds
+
+-- t stands before the first empty slot
 unfoldable pub reached : ℕ → List ℕ → Bool
-reached p [] = false
-reached p (x ∷ xs) = cond (isZero x) false (eqb p x || reached p xs)
+reached t [] = false
+reached t (x ∷ xs) = cond (isZero x) false (eqb x t || reached t xs)
 
--- ---- what they hold
-
--- nothing, or a place at which 38 bytes stand
-unfoldable pub inFile : List ℕ → ℕ → Bool
-inFile file x = isZero x || leb (x + 38) (length file)
-
-unfoldable pub serialsAt : List ℕ → List ℕ → List (List ℕ)
-serialsAt file ps = map (λ (p : ℕ). part p 38 file) ps
-
--- 196613 slots, and 4091 behind them for a search that begins at one of the last
-unfoldable pub slots : ℕ
-slots = 200704
-
--- the entries are these places of the file, each to be found from the slot of its serial number on
-pub record Holds (file : List ℕ) (places entries : List ℕ) : Type 0 where
-  pub long : length entries ≡ slots
-  pub inside : all (inFile file) entries ≡ true
-  pub only : all (λ (x : ℕ). isZero x || isIn x places) entries ≡ true
-  pub reach : (p : ℕ) → isIn p places ≡ true → reached p (drop (slotOf (part p 38 file)) entries) ≡ true
+-- the tag of each of these serial numbers is found from its slot on
+pub record Holds (serials : List (List ℕ)) (index : List ℕ) : Type 0 where
+  pub long : length index ≡ size
+  pub reach : (x : List ℕ) → known x serials ≡ true → reached (tagOf (hashOf x)) (drop (1 + slotOf (hashOf x)) index) ≡ true

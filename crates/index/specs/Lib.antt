@@ -1,3 +1,3 @@
 -- What the contracts cite.
---     Index   entries, the search among them, and what they hold
+--     Index   the hash of a serial number, the slots of an index, and what they hold
 pub mod Index

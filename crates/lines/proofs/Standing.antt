@@ -1,5 +1,6 @@
 -- Lines whose labels and LFs stand and whose values are good have no fault.
 --     value-is        a value judged by its line's kind
+--     opened-stands   one line up to its LF; opened-good: as the code tests it
 --     line-stands     one line
 --     Stand           n lines from a place on: what stands and what is good, line by line
 --     stand-run       they have no fault
@@ -14,13 +15,12 @@ use native.Mathlib.Numerals.{add-one}
 use borrow.Author.Tests.{eqb-true}
 use lib.Dec.{eqb}
 use lib.ListN.{length, take, drop, getD, length-drop, length-take}
-use Rattle.metafile.specs.Bytes.{part, same}
 use Rattle.metafile.specs.Lines.{fixed, lf, opened, linesOf, kindFault, fault, size, run}
 use Rattle.laws.proofs.First.{test, and-both}
 use Rattle.laws.proofs.Lists.{same-eq}
 use Rattle.laws.proofs.Loops.{fixed-good}
 use Rattle.table.specs.Codes.{lineNo, kindOf, codes, codeNo, linesFrom}
-use Rattle.table.specs.Stands.{stands, standsAt, headStands, integrityStands}
+use Rattle.table.specs.Stands.{labelStands, stands, standsAt, headStands, integrityStands}
 use Rattle.table.proofs.Lines.{label-part, label-long, kind-is}
 use Rattle.lines.specs.Stretches.{valueGood, headGood, integrityGood}
 use Rattle.lines.proofs.Runs.{lf-good, part-label, part-value, part-end, opened-go, line-go, opened-size, line-size, run-go, lines-one, linesOf-cons}
@@ -37,14 +37,12 @@ getD-inside [] (suc i) x e = absurd (omega arith)
 getD-inside (y ∷ s) zero x e = omega arith
 getD-inside (y ∷ s) (suc i) x e = omega (arith, getD-inside s i x e)
 
-module _ (i p : ℕ) (s : List ℕ) (h : i < 24) (on : standsAt i p s ≡ true) where
-  parts : (same (part p (codeNo i .long) s) (part (codeNo i .label) (codeNo i .long) Rattle.table.specs.Codes.labels) ≡ true)
-      × (eqb (getD s (p + codeNo i .long + codeNo i .width) 0) 10 ≡ true)
-  unfolding standsAt stands
-  parts = and-both _ _ on
+-- ---- a line whose label stands, up to its LF
 
+module _ (i p : ℕ) (s : List ℕ) (h : i < 24) (on : labelStands i p s ≡ true) where
   label-there : take (length (lineNo i .label)) (drop p s) ≡ lineNo i .label
-  label-there = rw (label-long i h) (same-eq _ _ (parts .0) ∙ sym (label-part i h))
+  unfolding labelStands
+  label-there = rw (label-long i h) (same-eq _ _ on ∙ sym (label-part i h))
 
   room : length (lineNo i .label) ≤ length (drop p s)
   room =
@@ -54,6 +52,25 @@ module _ (i p : ℕ) (s : List ℕ) (h : i < 24) (on : standsAt i p s ≡ true) 
   label-none : 0 ≡ fault (fixed (lineNo i .label)) (drop p s)
   label-none = fixed-good (lineNo i .label) (drop p s) room label-there
 
+  pub opened-stands : kindFault (lineNo i .kind) (drop (p + codeNo i .long) s) ≡ 0 → 0 ≡ run (opened (lineNo i)) (drop p s)
+  opened-stands v =
+      opened-go i s p 0 (label-none ∙ part-label i 0 (drop p s) refl) (p + codeNo i .long) 0 refl (omega (arith, label-long i h)) (sym v ∙ part-value i 1 _ refl)
+
+-- as the code tests it: the label stands, and the value judged behind it has no fault
+pub opened-good : (i p : ℕ) (s : List ℕ) (stood : Bool) (r : ℕ) → i < 24 → stood ≡ labelStands i p s
+    → r ≡ kindFault (kindOf (codeNo i .kind) (codeNo i .width)) (drop (p + codeNo i .long) s) → (stood && eqb r 0) ≡ true
+    → 0 ≡ run (opened (lineNo i)) (drop p s)
+opened-good i p s stood r h e f both =
+    let t = and-both stood (eqb r 0) both in
+    opened-stands i p s h (sym e ∙ t .0) (rw (kind-is i h) (sym f ∙ eqb-true r 0 (t .1)))
+
+-- ---- a line whose label and LF stand
+
+module _ (i p : ℕ) (s : List ℕ) (h : i < 24) (on : standsAt i p s ≡ true) where
+  parts : (labelStands i p s ≡ true) × (eqb (getD s (p + codeNo i .long + codeNo i .width) 0) 10 ≡ true)
+  unfolding standsAt stands labelStands
+  parts = and-both _ _ on
+
   lf-byte : getD s (p + codeNo i .long + codeNo i .width) 0 ≡ 10
   lf-byte = eqb-true _ _ (parts .1)
 
@@ -62,9 +79,7 @@ module _ (i p : ℕ) (s : List ℕ) (h : i < 24) (on : standsAt i p s ≡ true) 
 
   pub line-stands : kindFault (lineNo i .kind) (drop (p + codeNo i .long) s) ≡ 0 → 0 ≡ run (linesOf (lineNo i ∷ [])) (drop p s)
   line-stands v =
-      let long = label-long i h in
-      let value = opened-go i s p 0 (label-none ∙ part-label i 0 (drop p s) refl) (p + codeNo i .long) 0 refl (omega (arith, long)) (sym v ∙ part-value i 1 _ refl) in
-      line-go i s p 0 value (p + codeNo i .long + codeNo i .width) 0 refl (omega (arith, opened-size i h (codeNo i) refl))
+      line-go i s p 0 (opened-stands i p s h (parts .0) v) (p + codeNo i .long + codeNo i .width) 0 refl (omega (arith, opened-size i h (codeNo i) refl))
       (lf-none ∙ part-end i 2 _ (λ e. absurd (omega arith)) (λ e. absurd (omega arith)) (omega arith))
 
 -- n lines from line i on, the first at the place p

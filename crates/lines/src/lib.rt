@@ -6,7 +6,7 @@
 //     judge    the fault of a line's value, by its kind
 //     reader   the field reader: a file and a position in it
 //     run      the reader's runs: lines, LF, mark
-//     stretches  the runs over a chunk's head and its integrity data
+//     stretches  the runs over a chunk's head, its content length and its integrity data
 //     write    the writer's runs: values judged, lines, bytes, numbers and the closing put into a buffer
 mod judge;
 pub mod reader;
@@ -25,6 +25,8 @@ pub use run::lines_fault;
 pub use run::mark_fault;
 pub use run::opened_bytes;
 pub use run::opened_fault;
+pub use stretches::content_length_fault;
+pub use stretches::dependency_count_fault;
 pub use stretches::head_lines_fault;
 pub use stretches::integrity_fault;
 pub use stretches::length_fault;

@@ -1,13 +1,15 @@
-// What a file has most of. The lines that every chunk has: a chunk's head and its integrity data. Where every label and LF stands and every value is
-// good there is no fault; else the lines are gone through one by one for the first.
+// The lines that a file has most of: those of a chunk's head, its content length and its integrity data. Where every
+// label and LF stands and every value is good there is no fault; else the lines are gone through one by one for the
+// first.
 ghost use mathlib.Core.Path.{_≡_};
 ghost use Prim.Native.Nat.{_≤_};
 ghost use lib.ListN.{length, drop};
-ghost use Rattle.metafile.specs.Lines.{kindFault, linesOf, run};
+ghost use Rattle.metafile.specs.Lines.{kindFault, opened, linesOf, run};
 ghost use Rattle.table.specs.Codes.{lineNo, linesFrom};
 ghost use Rattle.lines.specs.Stretches.{headGood, integrityGood};
 use crate::judge;
 use crate::run::lines_fault;
+use crate::run::opened_fault;
 use crate::words;
 
 // The values from Chunk_Header_Length to Chunk_Dependency_Length have no fault.
@@ -48,6 +50,31 @@ pub fn head_lines_fault(s: &[u8]) -> u8
         }
     }
     lines_fault(s, 0, 0, 8)
+}
+
+// Chunk_Dependency_Count behind the head's lines, up to its digits.
+pub fn dependency_count_fault(s: &[u8]) -> u8
+    requires { ⌜ 540 ≤ length (now s) ⌝ }
+    ensures { λ r. ⌜ r ≡ run (opened (lineNo 8)) (drop 540 (now (s .entry))) ⌝ }
+{
+    if 567 <= s.len() {
+        if table::count_stands(s) & (judge::number_fault(s, 563, 4) == 0) {
+            return 0;
+        }
+    }
+    opened_fault(s, 540, 8)
+}
+
+// Chunk_Content_Length at the start, up to its digits.
+pub fn content_length_fault(s: &[u8]) -> u8
+    ensures { λ r. ⌜ r ≡ run (opened (lineNo 11)) (now (s .entry)) ⌝ }
+{
+    if 33 <= s.len() {
+        if table::length_stands(s) & (judge::number_fault(s, 21, 12) == 0) {
+            return 0;
+        }
+    }
+    opened_fault(s, 0, 11)
 }
 
 // The integrity data at a place.

@@ -8,6 +8,10 @@ use lib.ListN.{length, getD}
 use Rattle.metafile.specs.Bytes.{part, same}
 use Rattle.table.specs.Codes.{labels, codeNo}
 
+-- the label of line i at the place p
+unfoldable pub labelStands : ℕ → ℕ → List ℕ → Bool
+labelStands i p s = same (part p (codeNo i .long) s) (part (codeNo i .label) (codeNo i .long) labels)
+
 -- these bytes of the labels at the place p, and LF at the place e
 unfoldable pub stands : ℕ → ℕ → ℕ → ℕ → List ℕ → Bool
 stands from long p e s = same (part p long s) (part from long labels) && eqb (getD s e 0) 10

@@ -9,8 +9,10 @@ ghost use lib.ListN.{length, drop};
 ghost use Rattle.metafile.specs.Lines.{fixed, fault};
 ghost use Rattle.metafile.specs.Answers.{placed};
 ghost use Rattle.table.specs.Codes.{codeNo, lineNo};
+pub use stretches::count_stands;
 pub use stretches::head_stands;
 pub use stretches::integrity_stands;
+pub use stretches::length_stands;
 
 pub enum Kind {
     Number,

@@ -1,9 +1,9 @@
-// Labels and LFs of the lines that every chunk has, each compared at its place, with no branch between them.
+// Labels and LFs of the lines that a file has most of, each compared at its place, with no branch between them.
 ghost use mathlib.Core.Path.{_≡_};
 ghost use Prim.Native.Nat.{_+_, _≤_, _<_};
 ghost use lib.ListN.{length};
 ghost use Rattle.table.specs.Codes.{labels};
-ghost use Rattle.table.specs.Stands.{stands, headStands, integrityStands};
+ghost use Rattle.table.specs.Stands.{labelStands, stands, headStands, integrityStands};
 use crate::LABELS;
 
 // The bytes of the labels from a place on stand at `at`, and LF at `end`.
@@ -42,4 +42,22 @@ pub fn integrity_stands(s: &[u8]) -> bool
         & stands(s, &text, 391, 19, 144, 171)
         & stands(s, &text, 410, 20, 172, 224)
         & stands(s, &text, 430, 25, 225, 253)
+}
+
+// The label of Chunk_Dependency_Count, behind the head's lines.
+pub fn count_stands(s: &[u8]) -> bool
+    requires { ⌜ 563 ≤ length (now s) ⌝ }
+    ensures { λ r. ⌜ r ≡ labelStands 8 540 (now (s .entry)) ⌝ }
+{
+    let text = LABELS;
+    search::same_bytes(&s[540..563], &text[148..171])
+}
+
+// The label of Chunk_Content_Length.
+pub fn length_stands(s: &[u8]) -> bool
+    requires { ⌜ 21 ≤ length (now s) ⌝ }
+    ensures { λ r. ⌜ r ≡ labelStands 11 0 (now (s .entry)) ⌝ }
+{
+    let text = LABELS;
+    search::same_bytes(&s[..21], &text[219..240])
 }

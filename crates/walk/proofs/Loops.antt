@@ -2,7 +2,7 @@
 --     given-..          the chunk and its serial number, from the parts of the file that are handed on
 --     turn              from one row to the next
 --     step-..           the answers of a step; going halted: what a step's answer says
---     found-.. walk-..  the answers of the walks
+--     found-..          the answers of the walk to a row
 --     seen-passed with-there   the serial number of the chunk of a row, compared
 --     among-.. numbered-..     the answers on a serial number
 -- Assumes nothing.
@@ -18,22 +18,22 @@ use lib.Seq.{drop-length}
 use borrow.Author.Tests.{lt-ltb, le-ltb, ltb-true, ltb-false, not-true, not-false}
 use Rattle.metafile.specs.Bytes.{_⊳_, require, isEmpty}
 use Rattle.metafile.specs.Fields.{sameSerial, known}
-use Rattle.metafile.specs.Header.{isLLC, markLength, markOf, headerFault, headerGood}
+use Rattle.metafile.specs.Header.{isLLC, markLength, markOf, headerFault}
 use Rattle.metafile.specs.Chunk.{chunkFault, chunkEnd, serialOf}
-use Rattle.metafile.specs.Reading.{halt, nextFault, withHeader, reading, rowsOf, serialsOf}
+use Rattle.metafile.specs.Reading.{nextFault, reading, rowsOf, serialsOf}
 use Rattle.metafile.specs.Append.{rowNo}
 use Rattle.metafile.specs.Calls.{rowWith}
 use Rattle.laws.proofs.First.{test, cases, untrue, ⊳-stop, ⊳-go, require-met, require-unmet, choose-go, choose-stop}
 use Rattle.laws.proofs.Loops.{part-drop}
 use Rattle.chunk_laws.proofs.Rows.{some-bytes}
-use Rattle.chunk_laws.proofs.File.{file-few, good-begun, rows-unbegun, read-unbegun}
+use Rattle.chunk_laws.proofs.File.{file-few}
 use Rattle.chunk.specs.declared.parts.Layout.{Layout}
 use Rattle.walk.specs.declared.answers.Step.{Step}
 use Rattle.walk.specs.declared.answers.Numbered.{Numbered}
 use Rattle.chunk.specs.Layout.{layoutOf, partsOf, faulty, WholeLayout}
-use Rattle.walk.specs.Walk.{placeAfter, chunkAt, noLayout, stopWith, stepOf, walkOf, foundAt, numberedOf, amongOf}
+use Rattle.walk.specs.Walk.{placeAfter, chunkAt, noLayout, stopWith, stepOf, foundAt, numberedOf, amongOf}
 use Rattle.walk.proofs.Stages.{mark-part}
-use Rattle.walk.proofs.Steps.{serialsPast, restAfter, faultAfter, Stopped, after-cases, row-place, row-serial, row-unfaulted, place-suc, place-fits, stop-is}
+use Rattle.walk.proofs.Steps.{serialsPast, restAfter, faultAfter, Stopped, after-cases, row-place, row-serial, row-unfaulted, place-suc, place-fits}
 use Rattle.walk.proofs.Serials.{known-past, known-more, with-here, with-least, known-with}
 
 -- ---- the chunk at a place
@@ -107,6 +107,11 @@ module _ (file : List ℕ) (e : headerFault file ≡ 0) where
 
   pub place-whole : (i at : ℕ) → i < length (rowsOf file) → at ≡ placeAfter file i → chunkFault (isLLC file) (markOf file) (drop at file) ≡ 0
   place-whole i at h p = rw p (row-unfaulted file e i h)
+
+  -- the serial number of its chunk is the row's
+  pub row-has : (i at : ℕ) → i < length (rowsOf file) → at ≡ placeAfter file i → (x : List ℕ) → x ≡ serialOf (markOf file) (drop at file)
+      → x ≡ rowNo (rowsOf file) i .serial
+  row-has i at h p x is = rw (row-serial file e i h, ← p) is
 
   -- ---- a step
 
@@ -216,13 +221,6 @@ module _ (file : List ℕ) (e : headerFault file ≡ 0) where
 
   -- ---- the answers of the walks
 
-  pub walk-halted : (i at number : ℕ) (l : Layout) (good : Bool) → Halted i number l → i ≤ length (rowsOf file) → at ≡ placeAfter file i → good ≡ headerGood file
-      → record { count = i; stop = at; number = number; good = good } ≡ walkOf file
-  unfolding walkOf
-  walk-halted i at number l good w h p g =
-      let count : length (rowsOf file) ≡ i = omega (arith, w .past) in
-      rw (stop-is file e, count, good-begun file e, p, g, w .number-is)
-
   pub found-none : (i k number : ℕ) (l : Layout) → Halted i number l → i ≤ k → record { there = false; place = 0; layout = l } ≡ foundAt file k
   unfolding foundAt
   found-none i k number l w h = rw (le-ltb k (length (rowsOf file)) (omega (arith, w .past)), w .layout-is)
@@ -232,18 +230,12 @@ module _ (file : List ℕ) (e : headerFault file ≡ 0) where
   found-here i k at l w p q =
       rw (sym q, lt-ltb i (length (rowsOf file)) (w .row), row-place file e i (w .row), sym p, w .layout-is)
 
-pub walk-unbegun : (file : List ℕ) (n : ℕ) → n ≡ headerFault file → (n ≡ 0 → ⊥) → record { count = 0; stop = 0; number = n; good = false } ≡ walkOf file
-unfolding walkOf reading withHeader halt
-walk-unbegun file n is y =
-    let e : headerFault file ≡ 0 → ⊥ = λ q. y (is ∙ q) in
-    rw (rows-unbegun file e, read-unbegun (length file) file e, is)
-
 -- ---- the serial number of the chunk of row j
 
 module _ (x file : List ℕ) (e : headerFault file ≡ 0) (j at : ℕ) (h : j < length (rowsOf file)) (p : at ≡ placeAfter file j)
     (b : Bool) (t : List ℕ) (serial-is : t ≡ serialOf (markOf file) (drop at file)) (same-is : b ≡ sameSerial x t) where
   same-row : b ≡ sameSerial x (rowNo (rowsOf file) j .serial)
-  same-row = rw (row-serial file e j h, sym p, sym serial-is) same-is
+  same-row = rw (← row-has file e j at h p t serial-is) same-is
 
   pub seen-passed : known x (serialsOf (take j (rowsOf file))) ≡ false → b ≡ false → known x (serialsOf (take (j + 1) (rowsOf file))) ≡ false
   seen-passed k y = rw add-one (known-more x (rowsOf file) j h ∙ rw (k, sym same-row, y))

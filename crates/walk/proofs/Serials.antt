@@ -1,25 +1,30 @@
 -- Serial numbers in the rows so far ("9 whole chunk, serial already in a row"; "the row with that serial").
 --     known-past                          the rows so far, in whatever order
 --     known-none known-more               row by row
---     with-none with-here                 the row that has it
+--     with-here                           the row that has it
 --     with-least with-before known-with   that row, by whether the first rows have it
+--     serial-place-..                     the serial number of a row is the 38 bytes at its place in the file, which is not 0
 -- Assumes nothing.
-use Prim.Native.Nat.{ℕ, zero, suc, _+_, _≤_, _<_}
+use Prim.Native.Nat.{ℕ, zero, suc, _+_, _-_, _≤_, _<_}
 use mathlib.Core.Bool.{Bool, true, false, _||_}
 use mathlib.Core.Path.{_≡_, refl, sym, ap, _∙_}
 use mathlib.Core.List.{List, [], _∷_}
 use native.Mathlib.Omega.{arith}
 use lib.Dec.{ltb}
 use lib.ListN.{length, take, drop}
-use lib.Seq.{drop-length, drop-cons}
+use lib.Seq.{drop-cons, drop-drop}
 use borrow.Author.Tests.{lt-ltb, le-ltb}
 use Rattle.metafile.specs.declared.Row.{Row}
+use Rattle.metafile.specs.Bytes.{part}
 use Rattle.metafile.specs.Fields.{sameSerial, known}
+use Rattle.metafile.specs.Closing.{closingEnd, closingSerial}
+use Rattle.metafile.specs.Chunk.{closingPlace, chunkEnd, serialOf, rowAt}
 use Rattle.metafile.specs.Reading.{serialsOf}
 use Rattle.metafile.specs.Append.{noRow, rowNo}
 use Rattle.metafile.specs.Calls.{rowWith}
 use Rattle.laws.proofs.First.{test, untrue, or-false}
 use Rattle.chunk_laws.proofs.Rows.{past}
+use Rattle.chunk_laws.proofs.Places.{Placed, placed-end}
 
 or-none : (a : Bool) → (a || false) ≡ a
 or-none true = refl
@@ -67,12 +72,6 @@ module _ (x : List ℕ) where
       let k = or-false (sameSerial x (r .serial)) (known x (serialsOf (take i rs))) y in
       rw (k .0) (omega (arith, with-behind rs i (omega arith) (k .1)))
 
-  pub with-none : (rows : List Row) (i : ℕ) → i ≤ length rows → length rows ≤ i → known x (serialsOf (take i rows)) ≡ false → i ≡ rowWith x rows
-  unfolding rowWith
-  with-none rows i h past y =
-      let all : i ≡ length rows = omega arith in
-      sym (with-behind rows i h y ∙ rw (all, drop-length rows) (omega arith))
-
   pub with-here : (rows : List Row) (i : ℕ) → i < length rows → known x (serialsOf (take i rows)) ≡ false → sameSerial x (rowNo rows i .serial) ≡ true → i ≡ rowWith x rows
   unfolding rowWith rowNo
   with-here rows i h y q =
@@ -95,3 +94,27 @@ module _ (x : List ℕ) where
       test (known x (serialsOf (take i rows)))
       (λ q. rw q (lt-ltb _ _ (with-before rows i q)))
       (λ q. rw q (le-ltb _ _ (with-least rows i h q)))
+
+-- ---- the serial number of a row, at its place in the file
+
+-- in its closing, 234 bytes and the mark before its end
+unfoldable pub serialPlace : List ℕ → Row → ℕ
+serialPlace m r = r .end - (length m + 234)
+
+module _ (llc : Bool) (m file : List ℕ) (r : Row) (w : Placed llc m file r) where
+  serial-behind : serialPlace m r ≡ r .place + (closingPlace m (drop (r .place) file) + length m + 20)
+  unfolding serialPlace rowAt chunkEnd closingEnd
+  serial-behind = omega (arith, ap (λ (x : Row). x .end) (w .row))
+
+  pub serial-place-is : r .serial ≡ part (serialPlace m r) 38 file
+  unfolding rowAt serialOf closingSerial
+  serial-place-is =
+      ap (λ (x : Row). x .serial) (w .row)
+      ∙ rw (serial-behind, ← drop-drop (closingPlace m (drop (r .place) file) + length m + 20) (r .place) file)
+
+  pub serial-place-some : 0 < serialPlace m r
+  serial-place-some = omega (arith, serial-behind)
+
+  pub serial-place-inside : serialPlace m r + 38 ≤ length file
+  unfolding serialPlace
+  serial-place-inside = omega (arith, serial-place-some, placed-end llc m file r w)

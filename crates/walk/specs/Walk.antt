@@ -1,5 +1,5 @@
 -- What the functions of this crate answer, by the definitions of the crate metafile: the file header, one step of the
--- reading ("Reading"), the reading's count, stop, number and header sum, and a row by its number. Assumes nothing.
+-- reading ("Reading"), and a row by its number or by its serial number. Assumes nothing.
 use Prim.Native.Nat.{ℕ, zero, suc, min}
 use mathlib.Core.Bool.{true, false, cond}
 use mathlib.Core.List.{List}
@@ -15,7 +15,6 @@ use Rattle.chunk.specs.declared.parts.Layout.{Layout}
 use Rattle.chunk.specs.Layout.{layoutOf}
 use Rattle.walk.specs.declared.answers.Header.{Header}
 use Rattle.walk.specs.declared.answers.Step.{Step}
-use Rattle.walk.specs.declared.answers.Walk.{Walk}
 use Rattle.walk.specs.declared.answers.Found.{Found}
 use Rattle.walk.specs.declared.answers.Numbered.{Numbered}
 
@@ -53,11 +52,6 @@ stepOf file i =
     cond (ltb i (length (rowsOf file)))
     (record { go = true; number = 0; layout = chunkAt file (placeAfter file i) })
     (stopWith (reading file .number))
-
--- the reading with rows enough, without its rows
-unfoldable pub walkOf : List ℕ → Walk
-walkOf file =
-    record { count = length (rowsOf file); stop = reading file .stop; number = reading file .number; good = reading file .good }
 
 -- row k, from 0: its place and its chunk, where there is such a row
 unfoldable pub foundAt : List ℕ → ℕ → Found

@@ -19,14 +19,6 @@ pub struct Step {
     pub layout: Layout,
 }
 
-pub struct Walk {
-    pub count: usize,
-    pub stop: usize,
-    pub number: u8,
-    // header sum good
-    pub good: bool,
-}
-
 pub struct Found {
     pub there: bool,
     pub place: usize,

@@ -1,17 +1,17 @@
-// Serial numbers of the rows behind which a reading stands: looked up in the index, or in the rows' own chunks.
+// Serial numbers of the rows behind which a reading stands: new by the index, or looked up in the rows' own chunks.
 ghost use mathlib.Core.Path.{_≡_};
-ghost use Prim.Native.Nat.{_+_, _≤_, _<_};
+ghost use Prim.Native.Nat.{_≤_};
 ghost use lib.ListN.{length, take, replicate};
 ghost use Rattle.metafile.specs.Fields.{known};
 ghost use Rattle.metafile.specs.Reading.{rowsOf, serialsOf};
-ghost use Rattle.walk.specs.Walk.{headerOf, placeAfter, amongOf};
-ghost use Rattle.walk.specs.Index.{Indexed};
+ghost use Rattle.walk.specs.Walk.{headerOf, amongOf};
+ghost use Rattle.walk.specs.Index.{Indexed, enteredFor};
 use crate::answers::Header;
 use crate::answers::Numbered;
 use crate::rows::known_chunk;
 use crate::rows::serial_at;
 
-// The largest place that an entry holds.
+// The largest count that an entry holds.
 const LAST: usize = 4294967295;
 
 // An index in which nothing is entered.
@@ -59,8 +59,8 @@ fn rescanned(file: &[u8], h: Header, i: usize, serial: [u8; 38]) -> bool
     row_among(file, h, i, serial).there
 }
 
-// Whether a serial number is in one of the first i rows: by the index where all i are entered in it, else their chunks
-// are read again.
+// Whether a serial number is in one of the first i rows: by the index where all i are entered in it and the place of its
+// hash is empty, else their chunks are read again.
 pub fn seen(file: &[u8], h: Header, i: usize, index: &[u32], serial: [u8; 38]) -> bool
     requires { ⌜ h ≡ headerOf (now file) ⌝ }
     requires { ⌜ h .number ≡ 0 ⌝ }
@@ -69,37 +69,38 @@ pub fn seen(file: &[u8], h: Header, i: usize, index: &[u32], serial: [u8; 38]) -
     ensures { λ r. ⌜ r ≡ known serial (serialsOf (take i (rowsOf (now (file .entry))))) ⌝ }
 {
     if index[0] as usize == i {
-        let from = 1 + index::slot(serial);
-        let found = index::look_up(file, &index[from..], serial);
-        if found == index::NEW {
-            return false;
-        }
-        if found == index::THERE {
-            return true;
+        let at = index::place(index, index::hash(serial));
+        if at < index.len() {
+            if index[at] == 0 {
+                return false;
+            }
         }
     }
     rescanned(file, h, i, serial)
 }
 
-// Row i, whose chunk ends at the place `end`, is entered where all rows before it are and there is room. Its serial number
-// stands 234 bytes and the mark before the end.
-pub fn remember(file: &[u8], h: Header, i: usize, end: usize, index: &mut [u32])
+// The same, and a serial number that is not is entered as that of row i, where all rows before it are entered and there is
+// room. Its tag may stand there already, by another row: then there is nothing to enter but the count.
+pub fn met(file: &[u8], h: Header, i: usize, index: &mut [u32], serial: [u8; 38]) -> bool
     requires { ⌜ h ≡ headerOf (now file) ⌝ }
     requires { ⌜ h .number ≡ 0 ⌝ }
-    requires { ⌜ i < length (rowsOf (now file)) ⌝ }
-    requires { ⌜ end ≡ placeAfter (now file) (i + 1) ⌝ }
+    requires { ⌜ i ≤ length (rowsOf (now file)) ⌝ }
     requires { ⌜ Indexed (now file) i (now index) ⌝ }
-    ensures { λ _. ⌜ Indexed (now (file .entry)) (i + 1) (now (index .exit)) ⌝ }
+    ensures { λ r. ⌜ (r ≡ known serial (serialsOf (take i (rowsOf (now (file .entry)))))) × (now (index .exit) ≡ enteredFor (now (file .entry)) i serial (now (index .entry))) ⌝ }
 {
-    if index[0] as usize != i {
-        return;
+    if (index[0] as usize == i) & (i < LAST) {
+        let hash = index::hash(serial);
+        let at = index::place(index, hash);
+        if at < index.len() {
+            if index[at] != 0 {
+                if rescanned(file, h, i, serial) {
+                    return true;
+                }
+            }
+            index[at] = index::tag(hash);
+            index[0] = (i + 1) as u32;
+            return false;
+        }
     }
-    if LAST < end {
-        return;
-    }
-    let place = end - (h.mark + 234);
-    let from = 1 + index::slot(fields::serial_from(&file[place..]));
-    if index::enter(&mut index[from..], place as u32) {
-        index[0] = (i + 1) as u32;
-    }
+    rescanned(file, h, i, serial)
 }

@@ -1,15 +1,15 @@
 // The reading without a table, as the scope paper has it under "File header" and "Reading": the file header, one step
-// of the reading, the walk to a row, count, stop and number, and whether a serial number is already in a row. Nothing is
-// kept between the steps but an index of the rows' serial numbers, which the caller lends: their places in the file.
-// Where a row found no room in it, the serial numbers are looked up in the file's own chunks. Contracts cite Header,
-// Reading, Append.rowNo and Calls.rowWith of the crate metafile, and specs/Walk, Index and Survey of this one; the laws
-// are in proofs/Steps and Index.
-// Rests on chunk for one chunk, on index for the entries, on lines and fields for the header's lines and values, on sums.
+// of the reading, the walk to a row, and whether a serial number is already in a row. Nothing is kept between the steps
+// but an index of the rows' serial numbers, which the caller lends: how many rows are entered, and a hash of each. Where
+// the index says that a serial number is new, it is; where it does not, or a row found no room in it, the file's own chunks
+// are gone through. Contracts cite Header, Reading, Append.rowNo and Calls.rowWith of the crate metafile, and specs/Walk,
+// Index and Survey of this one; the laws are in proofs/Steps and Index.
+// Rests on chunk for one chunk, on index for the hashes, on lines and fields for the header's lines and values, on sums.
 //     answers  what the functions answer
 //     headers  the file header: strategy, mark, end, sum
 //     earlier  serial numbers of earlier rows: looked up, and entered into the index
 //     rows     what stands behind i rows: the chunk, its serial number, the step
-//     walks    the whole reading, the row of a number, the row of a serial number
+//     walks    the row of a number, the row of a serial number
 //     surveys  one reading for all that append asks of the file
 mod answers;
 mod earlier;
@@ -23,7 +23,6 @@ pub use answers::Header;
 pub use answers::Numbered;
 pub use answers::Step;
 pub use answers::Survey;
-pub use answers::Walk;
 pub use earlier::empty_index;
 pub use earlier::seen;
 pub use headers::header;
@@ -31,8 +30,6 @@ pub use rows::chunk_at;
 pub use rows::serial_at;
 pub use rows::step;
 pub use surveys::survey;
-pub use walks::known_row;
 pub use walks::row_at;
 pub use walks::row_with;
-pub use walks::walk;
 pub use walks::walk_to;

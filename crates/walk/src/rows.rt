@@ -9,8 +9,7 @@ ghost use Rattle.walk.specs.Walk.{headerOf, placeAfter, chunkAt, stopWit
 ghost use Rattle.walk.specs.Index.{Indexed};
 use crate::answers::Header;
 use crate::answers::Step;
-use crate::earlier::remember;
-use crate::earlier::seen;
+use crate::earlier::met;
 use chunk::Layout;
 
 // The chunk at a place of the file.
@@ -86,10 +85,9 @@ pub fn step(file: &[u8], h: Header, at: usize, i: usize, index: &mut [u32]) -> S
     if l.number != 0 {
         return stopped(l.number);
     }
-    if seen(file, h, i, index, serial_at(file, h, at, l)) {
+    if met(file, h, i, index, serial_at(file, h, at, l)) {
         return stopped(9);
     }
-    remember(file, h, i, at + l.end, index);
     Step {
         go: true,
         number: 0,

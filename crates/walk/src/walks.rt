@@ -1,52 +1,18 @@
-// The walks over the steps: to the end of the reading, to a row by its number, to a row by its serial number.
+// The walks over the steps: to a row by its number, to a row by its serial number.
 ghost use mathlib.Core.Path.{_≡_};
 ghost use mathlib.Core.Bool.{false};
 ghost use Prim.Native.Nat.{_+_, _≤_, _<_};
 ghost use lib.ListN.{length, take};
 ghost use Rattle.metafile.specs.Fields.{known};
 ghost use Rattle.metafile.specs.Reading.{rowsOf, serialsOf};
-ghost use Rattle.walk.specs.Walk.{headerOf, placeAfter, walkOf, foundAt, numberedOf};
+ghost use Rattle.walk.specs.Walk.{headerOf, placeAfter, foundAt, numberedOf};
 ghost use Rattle.walk.specs.Index.{Indexed};
 use crate::answers::Found;
 use crate::answers::Header;
 use crate::answers::Numbered;
-use crate::answers::Walk;
 use crate::earlier::row_among;
-use crate::headers::header;
-use crate::rows::known_chunk;
 use crate::rows::serial_at;
 use crate::rows::step;
-
-// Count, stop, number and header sum of the reading with rows enough.
-pub fn walk(file: &[u8]) -> Walk
-    ensures { λ r. ⌜ r ≡ walkOf (now (file .entry)) ⌝ }
-{
-    let h = header(file);
-    if h.number != 0 {
-        return Walk {
-            count: 0,
-            stop: 0,
-            number: h.number,
-            good: false,
-        };
-    }
-    let mut index = [0u32; 200705];
-    let mut at = h.end;
-    let mut i: usize = 0;
-    loop {
-        let s = step(file, h, at, i, &mut index);
-        if !s.go {
-            return Walk {
-                count: i,
-                stop: at,
-                number: s.number,
-                good: h.good,
-            };
-        }
-        at += s.layout.end;
-        i += 1;
-    }
-}
 
 // The row of a number, from 0; the serial numbers of the rows before it, and its own, are entered into an empty index.
 pub fn walk_to(file: &[u8], h: Header, k: usize, index: &mut [u32]) -> Found
@@ -87,27 +53,6 @@ pub fn row_at(file: &[u8], h: Header, k: usize) -> Found
 {
     let mut index = [0u32; 200705];
     walk_to(file, h, k, &mut index)
-}
-
-// The row of a number that is known to be in the reading: no chunk is judged again.
-pub fn known_row(file: &[u8], h: Header, k: usize) -> Found
-    requires { ⌜ h ≡ headerOf (now file) ⌝ }
-    requires { ⌜ h .number ≡ 0 ⌝ }
-    requires { ⌜ k < length (rowsOf (now file)) ⌝ }
-    ensures { λ r. ⌜ r ≡ foundAt (now (file .entry)) k ⌝ }
-{
-    let mut at = h.end;
-    let mut i: usize = 0;
-    while i < k {
-        at += known_chunk(file, h, at).end;
-        i += 1;
-    }
-    let layout = known_chunk(file, h, at);
-    Found {
-        there: true,
-        place: at,
-        layout,
-    }
 }
 
 // The row with a serial number, which none of the first n rows has; the last of them ends at the place `from`. Where there

@@ -1,15 +1,10 @@
 -- `chunk::parts_of` meets its contract. Assumes nothing.
-use Prim.Native.Nat.{_+_, _≤_}
-use native.Mathlib.Omega.{arith}
+use mathlib.Core.Path.{_≡_, sym, _∙_}
 use borrow.Author.Needs.{needs}
-use lib.ListN.{length}
 use Rattle.chunk_laws.proofs.Chunk.{whole}
-use Rattle.chunk.proofs.Layouts.{parts-long, parts-header, parts-contents, parts-inside, parts-are}
+use Rattle.chunk.proofs.Layouts.{parts-long}
 use Rattle.chunk.proofs.parts_of.Statement.{statement}
 use Rattle.chunk.proofs.parts_of.Tie as tie
-
-abbrev start : tie.After-is-multi → tie.Start
-start c = c .before .before .before .before
 
 header-bytes-requires : tie.Need-header-bytes-requires
 header-bytes-requires c κs =
@@ -20,50 +15,29 @@ header-bytes-requires c κs =
 is-multi-requires : tie.Need-is-multi-requires
 is-multi-requires c κs = parts-long _ _ _ (c .before .before .before .pre)
 
-sub-whole-bytes : tie.Need-sub-whole-bytes
-sub-whole-bytes c = parts-header _ _ _ (start c .pre) _ (c .before .header-bytes .ensures)
-
-part-whole-bytes-start : tie.Need-part-whole-bytes-start
-part-whole-bytes-start c = parts-header _ _ _ (start c .pre) _ (c .before .header-bytes .ensures)
-
-part-whole-bytes-end : tie.Need-part-whole-bytes-end
-part-whole-bytes-end c = search needs
-
-whole-bytes-requires : tie.Need-whole-bytes-requires
-whole-bytes-requires c κs = parts-contents _ _ _ (start (c .before) .pre) _ (c .before .before .header-bytes .ensures) _ (c .before .is-multi .ensures)
-
-contents-from-requires : tie.Need-contents-from-requires
-contents-from-requires c κs = search needs
-
--- the chunk ends inside
-inside : (c : tie.After-contents-from)
-    → c .before .before .before .before .header-bytes .result + c .contents-from .result + c .before .whole-bytes .result + length (start (c .before .before .before) .args .mark .now) + 254 + length (start (c .before .before .before) .args .mark .now)
-    ≤ length (start (c .before .before .before) .args .s .now)
-inside c =
-    parts-inside _ _ _ (start (c .before .before .before) .pre) _ (c .before .before .before .before .header-bytes .ensures) _ (c .before .before .before .is-multi .ensures) _ (c .before .whole-bytes .ensures) _ (c .contents-from .ensures)
-
-add-contents : tie.Need-add-contents
-add-contents c = omega (arith, inside c)
-
-add-end : tie.Need-add-end
-add-end c = omega (arith, inside c)
-
-add-end-2 : tie.Need-add-end-2
-add-end-2 c = omega (arith, inside c)
-
-add-end-3 : tie.Need-add-end-3
-add-end-3 c = omega (arith, inside c)
-
-add-end-4 : tie.Need-add-end-4
-add-end-4 c = omega (arith, inside c)
-
-dependencies-requires : tie.Need-dependencies-requires
-dependencies-requires c κs = parts-long _ _ _ (start (c .before .before .before) .pre)
+known-parts-requires : tie.Need-known-parts-requires
+known-parts-requires c κs =
+    let m = c .before in
+    (m .before .before .before .before .pre, (m .before .header-bytes .ensures, sym (c .if1 .taken) ∙ m .is-multi .ensures))
 
 returns : tie.Need-returns
-returns c =
-    let f = c .before in
-    parts-are _ _ _ (start (f .before .before .before) .pre) _ (f .before .before .before .before .header-bytes .ensures) _ (f .before .before .before .is-multi .ensures) _ (f .before .whole-bytes .ensures) _ (f .contents-from .ensures) _ (c .dependencies .ensures)
+returns c = search needs
+
+known-parts-requires-2 : tie.Need-known-parts-requires-2
+known-parts-requires-2 c κs =
+    let m = c .before .before in
+    (m .before .before .before .before .pre, (sym (c .if2 .taken) ∙ m .before .header-bytes .ensures, sym (c .before .if1 .left) ∙ m .is-multi .ensures))
+
+returns-2 : tie.Need-returns-2
+returns-2 c = search needs
+
+known-parts-requires-3 : tie.Need-known-parts-requires-3
+known-parts-requires-3 c κs =
+    let m = c .before .before in
+    (m .before .before .before .before .pre, (m .before .header-bytes .ensures, sym (c .before .if1 .left) ∙ m .is-multi .ensures))
+
+returns-3 : tie.Need-returns-3
+returns-3 c = search needs
 
 pub parts-of-spec : {M : Type 1} → statement M
 parts-of-spec =
@@ -71,15 +45,9 @@ parts-of-spec =
     (tie.spec
     header-bytes-requires
     is-multi-requires
-    sub-whole-bytes
-    part-whole-bytes-start
-    part-whole-bytes-end
-    whole-bytes-requires
-    contents-from-requires
-    add-contents
-    add-end
-    add-end-2
-    add-end-3
-    add-end-4
-    dependencies-requires
-    returns)
+    known-parts-requires
+    returns
+    known-parts-requires-2
+    returns-2
+    known-parts-requires-3
+    returns-3)

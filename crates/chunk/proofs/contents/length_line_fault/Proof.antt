@@ -11,13 +11,13 @@ use Rattle.chunk.proofs.contents.length_line_fault.Tie as tie
 
 -- label and digits have no fault
 opened-none : (c : tie.Else1) → run (opened (lineNo 11)) (c .before .before .before .args .r .now) ≡ 0
-opened-none c = sym (c .before .opened-fault .ensures) ∙ c .if1 .left
+opened-none c = sym (c .before .content-length-fault .ensures) ∙ c .if1 .left
 
-opened-fault-requires : tie.Need-opened-fault-requires
-opened-fault-requires c κs = search needs
+content-length-fault-requires : tie.Need-content-length-fault-requires
+content-length-fault-requires c κs = search needs
 
 returns : tie.Need-returns
-returns c = line-bad (c .before .before .before .args .llc) (c .before .before .before .args .r .now) _ (c .before .opened-fault .ensures) (c .if1 .taken)
+returns c = line-bad (c .before .before .before .args .llc) (c .before .before .before .args .r .now) _ (c .before .content-length-fault .ensures) (c .if1 .taken)
 
 count-at-requires : tie.Need-count-at-requires
 count-at-requires c κs = (omega arith, line-long (c .before .before .before .args .llc) _ (opened-none c))
@@ -37,7 +37,7 @@ pub length-line-fault-spec : {M : Type 1} → statement M
 length-line-fault-spec =
     tie.close
     (tie.spec
-    opened-fault-requires
+    content-length-fault-requires
     returns
     count-at-requires
     returns-2

@@ -1,6 +1,5 @@
 -- `chunk::header::head_fault` meets its contract. Assumes nothing.
 use mathlib.Core.Path.{_≡_, sym, _∙_}
-use native.Mathlib.Omega.{arith}
 use borrow.Author.Needs.{needs}
 use Rattle.metafile.specs.Lines.{linesOf, run}
 use Rattle.table.specs.Codes.{linesFrom}
@@ -19,11 +18,11 @@ head-lines-fault-requires c κs = search needs
 returns : tie.Need-returns
 returns c = stop _ _ _ (c .before .head-lines-fault .ensures) (c .if1 .taken) ∙ sym (head-split (c .before .before .before .args .s .now))
 
-opened-fault-requires : tie.Need-opened-fault-requires
-opened-fault-requires c κs = (head-begun _ (lines-none c), omega arith)
+dependency-count-fault-requires : tie.Need-dependency-count-fault-requires
+dependency-count-fault-requires c κs = head-begun _ (lines-none c)
 
 returns-2 : tie.Need-returns-2
-returns-2 c = go _ _ _ (lines-none (c .before)) (c .opened-fault .ensures) ∙ sym (head-split (c .before .before .before .before .args .s .now))
+returns-2 c = go _ _ _ (lines-none (c .before)) (c .dependency-count-fault .ensures) ∙ sym (head-split (c .before .before .before .before .args .s .now))
 
 pub head-fault-spec : {M : Type 1} → statement M
-head-fault-spec = tie.close (tie.spec head-lines-fault-requires returns opened-fault-requires returns-2)
+head-fault-spec = tie.close (tie.spec head-lines-fault-requires returns dependency-count-fault-requires returns-2)

@@ -1,8 +1,9 @@
 -- `chunk::header::is_multi_name` meets its contract. Assumes nothing.
+use mathlib.Core.Path.{_≡_, sym, _∙_}
 use native.Mathlib.Omega.{arith}
 use borrow.Author.Needs.{needs}
 use lib.ListN.{length-take}
-use Rattle.chunk.proofs.Headers.{multi-name}
+use Rattle.chunk.proofs.Headers.{multi-name, multi-name-not}
 use Rattle.chunk.proofs.header.is_multi_name.Statement.{statement}
 use Rattle.chunk.proofs.header.is_multi_name.Tie as tie
 
@@ -31,7 +32,15 @@ same-bytes-requires-2 : tie.Need-same-bytes-requires-2
 same-bytes-requires-2 c κs = search needs
 
 returns : tie.Need-returns
-returns c = multi-name (c .before .before .before .before .before .before .before .args .id .now) _ _ (c .before .before .before .before .before .before .before .pre) (c .before .before .before .same-bytes .ensures) (c .same-bytes2 .ensures)
+returns c =
+    let f = c .before .before .before in
+    let t = f .before in
+    multi-name (t .before .before .before .before .args .id .now) _ (t .before .before .before .before .pre) (sym (f .if1 .taken) ∙ t .same-bytes .ensures) (c .same-bytes2 .ensures)
+
+returns-2 : tie.Need-returns-2
+returns-2 c =
+    let t = c .before in
+    multi-name-not (t .before .before .before .before .args .id .now) (t .before .before .before .before .pre) (sym (c .if1 .left) ∙ t .same-bytes .ensures)
 
 pub is-multi-name-spec : {M : Type 1} → statement M
 is-multi-name-spec =
@@ -45,4 +54,5 @@ is-multi-name-spec =
     part-same-bytes-end
     slice-aggregate-same-bytes-3
     same-bytes-requires-2
-    returns)
+    returns
+    returns-2)

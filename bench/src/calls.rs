@@ -1,0 +1,74 @@
+//! The calls that are timed. Each is handed out as a closure that holds what it is lent.
+
+use std::hint::black_box;
+
+use compare::build::File;
+use compare::ffi::{self, Table};
+use plain::Row;
+
+use crate::files;
+
+pub fn proved_reading(file: &File) -> impl FnMut() + '_ {
+    let count = file.rows.len();
+    let mut table = Table::new(count + 1);
+    move || assert_eq!(black_box(ffi::read(black_box(&file.bytes), &mut table)).count, count)
+}
+
+pub fn plain_reading(file: &File) -> impl FnMut() + '_ {
+    let count = file.rows.len();
+    let mut rows: Vec<Row> = vec![file.rows[0]; count + 1];
+    move || assert_eq!(black_box(plain::read(black_box(&file.bytes), &mut rows)).count, count)
+}
+
+pub fn summed(file: &File) -> impl FnMut() + '_ {
+    || {
+        black_box(plain::field::sum(black_box(&file.bytes)));
+    }
+}
+
+pub fn copied_and_summed(from: &[u8], to: &mut [u8]) -> u8 {
+    from.iter().zip(to).fold(0, |sum, (from, to)| {
+        *to = *from;
+        sum.wrapping_add(*from)
+    })
+}
+
+/// The file in a buffer with room for one chunk more, of so many parents and bytes.
+pub fn room_for(file: &File, parents: usize, bytes: usize) -> Vec<u8> {
+    let mut buffer = file.bytes.clone();
+    buffer.resize(file.bytes.len() + 568 + 344 * parents + 34 + bytes + 254, 0);
+    buffer
+}
+
+#[rustfmt::skip]
+pub fn proved_append<'a>(buffer: &'a mut [u8], length: usize, parents: &'a [usize], data: &'a [u8]) -> impl FnMut() + 'a {
+    let description = ffi::Description::new()
+        .sub_format(b"ADS\\DATA\\TEST")
+        .generic_type(*b"TXT")
+        .synch_type(*b"GEN")
+        .time_standard(*b"UTC")
+        .time_offset(*b"+0000      8.035")
+        .event_synch(*b"NUL")
+        .serial_number(files::serial(888_888))
+        .recording(*b"20240229", b"RECORDER")
+        .writing(*b"20240301", b"WRITER");
+    move || {
+        let ends = ffi::append(black_box(&mut *buffer), length, description, parents, b"", data, false);
+        assert_eq!(ends.number, 0);
+    }
+}
+
+#[rustfmt::skip]
+pub fn plain_append<'a>(buffer: &'a mut [u8], length: usize, parents: &'a [usize], data: &'a [u8]) -> impl FnMut() + 'a {
+    let description = plain::Description::new()
+        .sub_format(b"ADS\\DATA\\TEST")
+        .generic_type(*b"TXT")
+        .synch_type(*b"GEN")
+        .time_standard(*b"UTC")
+        .time_offset(*b"+0000      8.035")
+        .event_synch(*b"NUL")
+        .serial_number(files::serial(888_888))
+        .recording(*b"20240229", b"RECORDER")
+        .writing(*b"20240301", b"WRITER");
+    move || assert!(plain::append(black_box(&mut *buffer), length, &description, parents, b"", data, false).is_ok())
+}
