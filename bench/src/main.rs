@@ -1,8 +1,8 @@
 //! Times of the proved library and of `plain` on the same bytes, in one run: `cargo run --release --offline`.
 //!
-//! Best of several repetitions. What is compared is timed in turns, so that a machine which is slow for a while is slow
-//! for all of it. Tables of rows are allocated and touched before. A goal that isn't reached is marked. Parts can be asked
-//! for by name: `cargo run --release --offline -- i iv`.
+//! Best of many repetitions. What is compared is timed in turns, and all of it in several rounds, so that a machine which is
+//! slow for a while is slow for all or for none. Tables of rows are allocated and touched before. A goal that isn't reached
+//! is marked. Parts can be asked for by name: `cargo run --release --offline -- i iv`.
 
 mod calls;
 mod files;
@@ -14,52 +14,66 @@ use calls::{plain_append, plain_reading, proved_append, proved_reading, summed};
 use compare::build::File;
 use compare::ffi;
 use files::MIB;
-use timing::{best, Call};
+use timing::best;
+
+const ROUNDS: usize = 4;
 
 fn main() {
     let asked: Vec<String> = std::env::args().skip(1).collect();
-    let wanted = |part: &str| asked.is_empty() || asked.iter().any(|name| name == part);
+    let wanted = |part: &&Part| asked.is_empty() || asked.iter().any(|name| name == part.0);
+    let parts: Vec<&Part> = PARTS.iter().filter(wanted).collect();
+    let mut kept = vec![Vec::new(); parts.len()];
+    for _ in 1..ROUNDS {
+        for (part, kept) in parts.iter().zip(&mut kept) {
+            part.1(kept);
+        }
+    }
+    let reports: Vec<Report> = parts.iter().zip(&mut kept).map(|(part, kept)| part.1(kept)).collect();
     println!(
         "{:48} {:>10} {:>10} {:>7} {:>8} {:>8} {:>8}",
         "", "proved ms", "plain ms", "ratio", "GB/s", "plain", "sum"
     );
-    let mut goals = Vec::new();
-    for (part, run) in PARTS {
-        if wanted(part) {
-            goals.extend(run());
-        }
+    for text in reports.iter().flat_map(|report| &report.lines) {
+        println!("{text}");
     }
     println!();
-    for goal in goals {
-        println!("{goal}");
+    for text in reports.iter().flat_map(|report| &report.goals) {
+        println!("{text}");
     }
 }
 
-type Part = (&'static str, fn() -> Vec<String>);
+/// What a part says of the best times so far.
+struct Report {
+    lines: Vec<String>,
+    goals: Vec<String>,
+}
 
-/// The parts, each by the name by which it can be asked for alone.
+/// A part, by the name by which it can be asked for alone. It makes one round, and keeps the best times.
+type Part = (&'static str, fn(&mut Vec<f64>) -> Report);
+
 const PARTS: [Part; 6] =
     [("i", large), ("ii", small), ("iii", open), ("iv", mini_chunks), ("v", growth), ("append", long_append)];
 
-fn large() -> Vec<String> {
+fn large(kept: &mut Vec<f64>) -> Report {
     let file = files::counted(8, 8 * MIB, &[]);
-    let [proved, _, sum] = reading("(i) read, 8 counted chunks of 8 MiB", &file);
-    vec![
-        goal("(i) speed, of the sum's", sum / proved, 0.9, true),
-        goal("(i) time, of the sum's", proved / sum, 1.5, false),
-    ]
+    let lines = reading(kept, "(i) read, 8 counted chunks of 8 MiB", &file);
+    let goals = vec![
+        goal("(i) speed, of the sum's", kept[2] / kept[0], 0.9, true),
+        goal("(i) time, of the sum's", kept[0] / kept[2], 1.5, false),
+    ];
+    Report { lines, goals }
 }
 
 /// (ii), and (vi) beside it: parent, contents and append on the same file, in turns with the reading.
 #[rustfmt::skip]
-fn small() -> Vec<String> {
+fn small(times: &mut Vec<f64>) -> Report {
     let chunks = 50_000;
     let last = chunks - 1;
     let file = files::counted(chunks, 64 * MIB / chunks - 856, &[5, chunks - 10]);
     let bytes = &file.bytes[..];
     let mut lent = [calls::room_for(&file, 2, 11), calls::room_for(&file, 2, 11)];
     let [for_proved, for_plain] = &mut lent;
-    let times = best(&mut [
+    best(times, &mut [
         (1, &mut proved_reading(&file)),
         (1, &mut plain_reading(&file)),
         (1, &mut summed(&file)),
@@ -73,13 +87,13 @@ fn small() -> Vec<String> {
         (1, &mut plain_append(for_plain, bytes.len(), &[7, last], b"a few bytes")),
     ]);
     assert!(lent[0] == lent[1]);
-    line("(ii) read, 50,000 chunks, 64 MiB", [times[0], times[1]], bytes.len(), Some(times[2]));
+    let mut lines = vec![line("(ii) read, 50,000 chunks, 64 MiB", &times[..2], bytes.len(), Some(times[2]))];
     let mut goals = vec![goal("(ii) time, of plain's", times[0] / times[1], 1.0, false)];
     for (name, pair) in OTHER_CALLS.iter().zip(times[3..].chunks(2)) {
-        line(name, [pair[0], pair[1]], bytes.len(), None);
+        lines.push(line(name, pair, bytes.len(), None));
         goals.push(goal(&format!("{name}, of one reading"), pair[0] / times[0], 1.2, false));
     }
-    goals
+    Report { lines, goals }
 }
 
 const OTHER_CALLS: [&str; 4] = [
@@ -89,84 +103,87 @@ const OTHER_CALLS: [&str; 4] = [
     "(vi) append of 11 bytes, two parents",
 ];
 
-fn open() -> Vec<String> {
+fn open(kept: &mut Vec<f64>) -> Report {
     let file = files::open(64, MIB);
-    reading("(iii) read, 64 open chunks of 1 MiB, mark of 90", &file);
-    Vec::new()
+    let lines = reading(kept, "(iii) read, 64 open chunks of 1 MiB, mark of 90", &file);
+    Report { lines, goals: Vec::new() }
 }
 
-fn mini_chunks() -> Vec<String> {
+fn mini_chunks(kept: &mut Vec<f64>) -> Report {
     let file = files::multi(600_000, 64 * MIB / 600_000 - 32);
-    let [proved, plain, _] = reading("(iv) read, 600,000 mini-chunks", &file);
-    vec![goal("(iv) time, of plain's", proved / plain, 1.0, false)]
+    let lines = reading(kept, "(iv) read, 600,000 mini-chunks", &file);
+    Report { lines, goals: vec![goal("(iv) time, of plain's", kept[0] / kept[1], 1.0, false)] }
 }
 
 /// The three sizes in turns: a hundred readings of the smallest, ten of the next, one of the largest.
 #[rustfmt::skip]
-fn growth() -> Vec<String> {
+fn growth(times: &mut Vec<f64>) -> Report {
     let files = [1_000, 10_000, 100_000].map(|chunks| files::counted(chunks, 0, &[]));
     let [small, middle, large] = &files;
-    let times = best(&mut [
+    best(times, &mut [
         (100, &mut proved_reading(small)), (100, &mut plain_reading(small)), (100, &mut summed(small)),
         (10, &mut proved_reading(middle)), (10, &mut plain_reading(middle)), (10, &mut summed(middle)),
         (1, &mut proved_reading(large)), (1, &mut plain_reading(large)), (1, &mut summed(large)),
     ]);
-    let mut each = Vec::new();
+    let (mut lines, mut each) = (Vec::new(), Vec::new());
     for (file, of_file) in files.iter().zip(times.chunks(3)) {
         let chunks = file.rows.len();
         let a_chunk = |seconds: f64| seconds / chunks as f64 * 1e9;
-        let pair = [of_file[0], of_file[1]];
-        line(&format!("(v) read, {chunks} empty chunks"), pair, file.bytes.len(), Some(of_file[2]));
-        println!("{:48} {:10.1} {:10.1}   ns a chunk", "", a_chunk(pair[0]), a_chunk(pair[1]));
-        each.push(a_chunk(pair[0]));
+        let name = format!("(v) read, {chunks} empty chunks");
+        lines.push(line(&name, &of_file[..2], file.bytes.len(), Some(of_file[2])));
+        lines.push(format!("{:48} {:10.1} {:10.1}   ns a chunk", "", a_chunk(of_file[0]), a_chunk(of_file[1])));
+        each.push(a_chunk(of_file[0]));
     }
-    vec![goal("(v) time a chunk at 100,000, of that at 1,000", each[2] / each[0], 1.5, false)]
+    Report { lines, goals: vec![goal("(v) time a chunk at 100,000, of that at 1,000", each[2] / each[0], 1.5, false)] }
 }
 
 /// Append of 1 MiB to 64 MiB in 64 chunks, beside one pass over the new bytes (copied and summed) and one reading without
 /// sums (contents of the last row).
-fn long_append() -> Vec<String> {
+fn long_append(times: &mut Vec<f64>) -> Report {
     let file = files::counted(64, MIB, &[]);
     let data = vec![b'd'; MIB];
     let mut lent = [calls::room_for(&file, 0, MIB), calls::room_for(&file, 0, MIB)];
     let [for_proved, for_plain] = &mut lent;
     let mut copy = vec![0; MIB];
     let length = file.bytes.len();
-    let times = best(&mut [
-        (1, &mut proved_append(for_proved, length, &[], &data)),
-        (1, &mut plain_append(for_plain, length, &[], &data)),
-        (1, &mut || {
-            black_box(calls::copied_and_summed(black_box(&data), &mut copy));
-        }),
-        (1, &mut || assert_eq!(black_box(ffi::contents(black_box(&file.bytes), 63)).number, 0)),
-    ]);
-    assert!(lent[0] == lent[1]);
-    line("append of 1 MiB to 64 chunks of 1 MiB", [times[0], times[1]], data.len(), None);
-    println!("{:48} {:10.3} {:10.3}   ms: one pass, contents of the last row", "", times[2] * 1e3, times[3] * 1e3);
-    let name = "append of 1 MiB, of one pass and contents of the last row";
-    vec![goal(name, times[0] / (times[2] + times[3]), 1.5, false)]
-}
-
-/// One reading with rows enough, by both; also the time of the plain sum over the same bytes.
-fn reading(name: &str, file: &File) -> [f64; 3] {
-    let calls: &mut [Call] =
-        &mut [(1, &mut proved_reading(file)), (1, &mut plain_reading(file)), (1, &mut summed(file))];
-    let times = best(calls);
-    line(name, [times[0], times[1]], file.bytes.len(), Some(times[2]));
-    [times[0], times[1], times[2]]
-}
-
-fn line(name: &str, [proved, plain]: [f64; 2], bytes: usize, sum: Option<f64>) {
-    let speed = |seconds: f64| format!("{:.2}", bytes as f64 / seconds / 1e9);
-    println!(
-        "{name:48} {:10.3} {:10.3} {:7.2} {:>8} {:>8} {:>8}",
-        proved * 1e3,
-        plain * 1e3,
-        proved / plain,
-        speed(proved),
-        speed(plain),
-        sum.map_or("".to_string(), speed)
+    best(
+        times,
+        &mut [
+            (1, &mut proved_append(for_proved, length, &[], &data)),
+            (1, &mut plain_append(for_plain, length, &[], &data)),
+            (1, &mut || {
+                black_box(calls::copied_and_summed(black_box(&data), &mut copy));
+            }),
+            (1, &mut || assert_eq!(black_box(ffi::contents(black_box(&file.bytes), 63)).number, 0)),
+        ],
     );
+    assert!(lent[0] == lent[1]);
+    let lines = vec![
+        line("append of 1 MiB to 64 chunks of 1 MiB", &times[..2], data.len(), None),
+        format!("{:48} {:10.3} {:10.3}   ms: one pass, contents of the last row", "", times[2] * 1e3, times[3] * 1e3),
+    ];
+    let name = "append of 1 MiB, of one pass and contents of the last row";
+    Report { lines, goals: vec![goal(name, times[0] / (times[2] + times[3]), 1.5, false)] }
+}
+
+/// One reading with rows enough, by both; also the plain sum over the same bytes.
+fn reading(kept: &mut Vec<f64>, name: &str, file: &File) -> Vec<String> {
+    best(kept, &mut [(1, &mut proved_reading(file)), (1, &mut plain_reading(file)), (1, &mut summed(file))]);
+    vec![line(name, &kept[..2], file.bytes.len(), Some(kept[2]))]
+}
+
+/// A line of the table: the two times, and the speeds over so many bytes.
+fn line(name: &str, pair: &[f64], bytes: usize, sum: Option<f64>) -> String {
+    let speed = |seconds: f64| format!("{:.2}", bytes as f64 / seconds / 1e9);
+    format!(
+        "{name:48} {:10.3} {:10.3} {:7.2} {:>8} {:>8} {:>8}",
+        pair[0] * 1e3,
+        pair[1] * 1e3,
+        pair[0] / pair[1],
+        speed(pair[0]),
+        speed(pair[1]),
+        sum.map_or("".to_string(), speed)
+    )
 }
 
 fn goal(name: &str, value: f64, limit: f64, least: bool) -> String {

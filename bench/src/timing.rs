@@ -2,7 +2,7 @@
 
 use std::time::{Duration, Instant};
 
-const ENOUGH: Duration = Duration::from_millis(2500);
+const ENOUGH: Duration = Duration::from_millis(400);
 
 /// A call, and how often it is made in one turn: short ones more often than long ones.
 pub type Call<'a> = (usize, &'a mut dyn FnMut());
@@ -14,21 +14,20 @@ fn once(call: &mut dyn FnMut()) -> Duration {
     start.elapsed()
 }
 
-/// The best of each call, in turns: at least five turns (fewer if they take long), and more while there is time.
-pub fn best(calls: &mut [Call]) -> Vec<f64> {
-    let mut times = vec![Duration::MAX; calls.len()];
-    let enough = ENOUGH * calls.len() as u32 / 2;
+/// The best of each call, kept over the rounds; in a round, calls are made in turns: at least three turns, and more while
+/// there is time.
+pub fn best(kept: &mut Vec<f64>, calls: &mut [Call]) {
+    kept.resize(calls.len(), f64::INFINITY);
+    let enough = ENOUGH * calls.len() as u32;
     let start = Instant::now();
     for turn in 0.. {
-        let passed = start.elapsed();
-        if turn >= 5 && passed > enough || turn >= 1 && passed > 4 * enough || turn >= 200 {
+        if turn >= 3 && start.elapsed() > enough || turn >= 100 {
             break;
         }
-        for ((repeated, call), best) in calls.iter_mut().zip(&mut times) {
+        for ((repeated, call), best) in calls.iter_mut().zip(&mut *kept) {
             for _ in 0..*repeated {
-                *best = once(*call).min(*best);
+                *best = once(*call).as_secs_f64().min(*best);
             }
         }
     }
-    times.iter().map(Duration::as_secs_f64).collect()
 }
