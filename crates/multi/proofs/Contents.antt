@@ -15,9 +15,10 @@ use Rattle.metafile.specs.Multi.{typesOf, multiLength, typesFault, typesBytes, 
 use Rattle.laws.proofs.First.{cases, and-both, ⊳-left, ⊳-right, ⊳-stop, ⊳-go, ⊳-assoc, require-true, choose-go, choose-stop}
 use Rattle.chunk_laws.proofs.Types.{types-enough}
 use Rattle.multi.specs.declared.Part.{Part}
-use Rattle.multi.specs.Part.{partOf, multiPart, keptIDs, headFault, firstMini}
+use Rattle.multi.specs.Part.{partOf, multiPart, keptIDs, textIDs, headFault, firstMini}
 use Rattle.multi.proofs.Places.{stop}
 use Rattle.multi.proofs.TypeStages.{head-stages, head-second, lf-fits}
+use Rattle.multi.proofs.TypeWalk.{types-texts}
 
 -- ---- parts
 
@@ -95,6 +96,9 @@ module _ (r : List ℕ) where
       place-inside =
           let a = simp length-drop at (types-enough (typesOf r) (multiLength r) 0 [] (drop 65 r) (part-whole p _ _ e z .0)) in
           omega (arith, place-is, head-fits h)
+
+      pub texts-kept : (n : ℕ) (ids : List ℕ) → n ≡ typesOf r → keptIDs n ids ≡ typeIDs n (drop 65 r) → textIDs (keptIDs n ids)
+      texts-kept n ids q k = rw (k, q) (types-texts _ _ _ _ _ (part-whole p _ _ e z .0))
 
       pub multi-first : (f : ℕ) → f ≡ firstMini (drop (p .bytes) r) → (f ≡ 0 → ⊥) → record { number = f; bytes = 0 } ≡ multiPart r
       unfolding multiPart

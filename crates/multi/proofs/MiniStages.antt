@@ -13,7 +13,7 @@ use lib.ListN.{length, take, drop, length-take, length-drop}
 use lib.Seq.{drop-drop, length-take-le}
 use Rattle.metafile.specs.Bytes.{part, _⊳_, require, same, member, starts}
 use Rattle.metafile.specs.Fields.{countValue}
-use Rattle.metafile.specs.Lines.{text, free, i12, fixed, value, width, fieldWidth, size, kindFault, fault, run, table, multiHeaderLength, shortID}
+use Rattle.metafile.specs.Lines.{text, free, i12, fixed, value, width, fieldWidth, size, textFault, kindFault, fault, run, table, multiHeaderLength, shortID}
 use Rattle.metafile.specs.Answers.{placed}
 use Rattle.metafile.specs.Multi.{miniLabel, miniID, miniData, miniFault}
 use Rattle.table.specs.Codes.{lineNo}
@@ -22,8 +22,8 @@ use Rattle.laws.proofs.Lists.{same-eq}
 use Rattle.laws.proofs.Loops.{fixed-good, placed-nothing}
 use Rattle.laws.proofs.Table.{field-short, field-long, kind-enough, run-enough}
 use Rattle.laws.proofs.Distances.{lines}
-use Rattle.multi.specs.Part.{firstMini, miniRest, dataUnder}
-use Rattle.multi.proofs.Places.{go, unmet, met, part-at}
+use Rattle.multi.specs.Part.{textIDs, firstMini, miniRest, dataUnder}
+use Rattle.multi.proofs.Places.{stop, go, unmet, met, part-at}
 
 -- ---- where the first must stand
 
@@ -56,12 +56,6 @@ unfolding starts
 label-passes m s e = sym (fixed-good m s (starts-long m s e) (same-eq (take (length m) s) m e))
 
 module _ (at : ℕ) (r : List ℕ) (s : starts miniLabel (drop at r) ≡ true) where
-  pub label-fits : at ≤ length r → at + 10 ≤ length r
-  unfolding miniLabel
-  label-fits h =
-      let a = simp length-drop at (starts-long miniLabel (drop at r) s) in
-      omega arith
-
   name-is : run (fixed miniLabel ∷ value (text 10) ∷ []) (drop at r) ≡ fault (value (text 10)) (drop (at + 10) r)
   unfolding run _⊳_ fieldWidth miniLabel
   name-is = rw (label-passes miniLabel (drop at r) s, drop-drop 10 at r) (⊳-none _)
@@ -73,27 +67,29 @@ module _ (at : ℕ) (r : List ℕ) (s : starts miniLabel (drop at r) ≡ true) w
   unfolding miniFault miniRest miniData lineNo table shortID fault
   mini-stages ids = rw (name-is, drop-drop 20 at r)
 
-  -- the short ID is in form
-  module _ (z : kindFault (lineNo 15 .kind) (drop (at + 10) r) ≡ 0) where
-    pub id-fits : at ≤ length r → at + 20 ≤ length r
-    unfolding lines lineNo table
-    id-fits h =
-        let a = simp length-drop at (kind-enough (text 10) (drop (at + 10) r) z) in
-        omega (arith, label-fits h)
+  pub mini-short : (ids : List (List ℕ)) → length r - at < 20 → 4 ≡ miniFault ids (drop at r)
+  unfolding lineNo table shortID kindFault
+  mini-short ids k =
+      let f = field-short 10 textFault (drop (at + 10) r) (simp length-drop (omega arith)) in
+      stop _ _ 4 (sym f) (λ z. omega arith) ∙ sym (mini-stages ids)
 
-    -- x tells whether it is declared
-    module _ {x : Bool} (ids : List (List ℕ)) (q : x ≡ member (take (at + 20 - (at + 10)) (drop (at + 10) r)) ids) where
-      declared : member (miniID (drop at r)) ids ≡ x
-      unfolding miniID
-      declared =
-          let ten : at + 20 - (at + 10) ≡ 10 = omega arith in
-          rw (ten, ← drop-drop 10 at r) at (sym q)
+  -- x tells whether the short ID is declared
+  module _ {x : Bool} (ids : List (List ℕ)) (q : x ≡ member (take (at + 20 - (at + 10)) (drop (at + 10) r)) ids) where
+    asked : member (part (at + 10) 10 r) ids ≡ x
+    asked = let ten : at + 20 - (at + 10) ≡ 10 = omega arith in rw ten at (sym q)
 
-      pub mini-undeclared : x ≡ false → 8 ≡ miniFault ids (drop at r)
-      mini-undeclared t = go _ _ 8 z (unmet _ 7 _ (declared ∙ t)) ∙ sym (mini-stages ids)
+    declared : member (miniID (drop at r)) ids ≡ x
+    unfolding miniID
+    declared = rw (← drop-drop 10 at r) at asked
 
-      pub mini-declared : (f : ℕ) → x ≡ true → f ≡ miniRest (drop (at + 20) r) → f ≡ miniFault ids (drop at r)
-      mini-declared f t p = go _ _ f z (met _ 8 _ f (declared ∙ t) p) ∙ sym (mini-stages ids)
+    pub mini-declared : (f : ℕ) → textIDs ids → 20 ≤ length r - at → x ≡ true → f ≡ miniRest (drop (at + 20) r) → f ≡ miniFault ids (drop at r)
+    unfolding lineNo table shortID kindFault
+    mini-declared f texts k t p =
+        let z = field-long 10 textFault (drop (at + 10) r) (simp length-drop (omega arith)) ∙ texts _ (asked ∙ t) in
+        go _ _ f z (met _ 8 _ f (declared ∙ t) p) ∙ sym (mini-stages ids)
+
+    pub mini-undeclared : x ≡ false → kindFault (lineNo 15 .kind) (drop (at + 10) r) ≡ 0 → 8 ≡ miniFault ids (drop at r)
+    mini-undeclared t z = go _ _ 8 z (unmet _ 7 _ (declared ∙ t)) ∙ sym (mini-stages ids)
 
 -- ---- its length and data
 

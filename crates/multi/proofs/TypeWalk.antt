@@ -2,6 +2,7 @@
 --     kept-..     the loop over the IDs kept; kept-more: one more
 --     Walk        the loop over the types: at a place, with i of n types passed and their IDs kept
 --     walk-..     where it begins, one type on, a type that has a fault, the end
+--     types-texts the short IDs of types that have no fault are texts
 --     place-.. bytes-.. declared-..   the loops over types that have no fault
 -- Assumes nothing.
 use Prim.Native.Nat.{ℕ, zero, suc, _+_, _-_, _*_, _≤_, _<_}
@@ -15,12 +16,16 @@ use lib.ListN.{length, take, drop, length-drop}
 use lib.Seq.{drop-drop, take-at, drop-at, take-add, length-take-le}
 use borrow.Author.Tests.{eq-eqb, ne-eqb}
 use Rattle.metafile.specs.Bytes.{part, isZero, same, member}
+use Rattle.metafile.specs.Lines.{text, Field, fixed, value, lf, linesOf, fieldFault, textFault, kindFault, fault, subFormatID, shortID}
 use Rattle.metafile.specs.Answers.{placed}
 use Rattle.metafile.specs.Multi.{typeBytes, typeID, typeFault, typesFault, typesBytes, typeIDs, typesOf, minisPlace, declaredIDs, multiFault, multiBytes}
-use Rattle.laws.proofs.First.{cases, ⊳-stop, ⊳-go}
+use Rattle.laws.proofs.First.{cases, untrue, or-true, ⊳-left, ⊳-right, ⊳-stop, ⊳-go}
+use Rattle.laws.proofs.Lists.{same-eq}
 use Rattle.laws.proofs.Loops.{placed-length}
+use Rattle.laws.proofs.Table.{field-own, run-at}
+use Rattle.laws.proofs.Distances.{lines}
 use Rattle.chunk_laws.proofs.Multi.{multi-whole, multi-enough}
-use Rattle.multi.specs.Part.{keptIDs}
+use Rattle.multi.specs.Part.{keptIDs, textIDs}
 use Rattle.multi.proofs.TypeStages.{type-fits}
 
 -- ---- the short IDs kept
@@ -211,6 +216,22 @@ module _ {r : List ℕ} {n announced at i : ℕ} {kept : List ℕ} (w : Walk r n
       sym (w .declared ∙ rw (all-passed, append-nil, same-count))
 
 -- ---- types that have no fault
+
+id-text : (last : Bool) (announced before : ℕ) (ids : List (List ℕ)) (t : List ℕ) → typeFault last announced before ids t ≡ 0 → textFault (typeID t) ≡ 0
+unfolding lines typeFault typeID fault kindFault
+id-text last announced before ids t e =
+    let names = ⊳-left _ _ (⊳-right _ _ (⊳-right _ _ (⊳-right _ _ e))) in
+    let opening : List Field = lf ∷ linesOf (subFormatID ∷ []) ++ fixed (shortID .label) ∷ [] in
+    let f : fieldFault 10 textFault (drop 290 (drop 34 t)) ≡ 0 = run-at opening (value (text 10)) [] (drop 34 t) names in
+    rw (drop-drop 290 34 t) at (field-own 10 textFault (drop 290 (drop 34 t)) f)
+
+pub types-texts : (n announced before : ℕ) (ids : List (List ℕ)) (t : List ℕ) → typesFault n announced before ids t ≡ 0 → textIDs (typeIDs n t)
+unfolding typesFault typeIDs member
+types-texts zero announced before ids t e v m = untrue m
+types-texts (suc n) announced before ids t e v m =
+    or-true (same v (typeID t)) _ m
+    (λ q. rw (same-eq v (typeID t) q) (id-text (isZero n) announced before ids t (⊳-left _ _ e)))
+    (types-texts n announced (before + typeBytes t) (typeID t ∷ ids) (drop (typeBytes t) t) (⊳-right _ _ e) v)
 
 pub place-fits : (r : List ℕ) → multiFault r ≡ 0 → minisPlace r ≤ length r
 unfolding multiBytes

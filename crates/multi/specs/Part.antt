@@ -1,13 +1,14 @@
 -- What the contracts cite beside the definitions of the crate metafile: what a part of the contents hands back, the short
 -- IDs as they are kept, and the stretches that have a function of their own. Assumes nothing.
 use Prim.Native.Nat.{ℕ, zero, suc, _+_, _-_}
-use mathlib.Core.Bool.{Bool, cond, not, _&&_, _||_}
+use mathlib.Core.Bool.{Bool, true, cond, not, _&&_, _||_}
+use mathlib.Core.Path.{_≡_}
 use mathlib.Core.List.{List, [], _∷_, _++_}
 use lib.Dec.{leb, eqb}
 use lib.ListN.{length, take, drop}
-use Rattle.metafile.specs.Bytes.{part, _⊳_, require, choose, same}
+use Rattle.metafile.specs.Bytes.{part, _⊳_, require, choose, same, member}
 use Rattle.metafile.specs.Fields.{countValue}
-use Rattle.metafile.specs.Lines.{free, i12, Field, value, lf, opened, linesOf, run, fieldFault, subFormatID, timeAndEvent, subTypeLength, shortID}
+use Rattle.metafile.specs.Lines.{free, i12, Field, value, lf, opened, linesOf, run, fieldFault, textFault, subFormatID, timeAndEvent, subTypeLength, shortID}
 use Rattle.metafile.specs.Multi.{multiHead, typesOf, typeLength, typeBytes, multiLengthFor, miniLabel, miniID, miniData, multiFault, multiBytes}
 use Rattle.multi.specs.declared.Part.{Part}
 
@@ -22,6 +23,10 @@ multiPart r = partOf (multiFault r) (multiBytes r)
 unfoldable pub keptIDs : ℕ → List ℕ → List (List ℕ)
 keptIDs zero s = []
 keptIDs (suc n) s = take 10 s ∷ keptIDs n (drop 10 s)
+
+-- each of these short IDs is a text
+abbrev pub textIDs : List (List ℕ) → Type 0
+textIDs ids = (v : List ℕ) → member v ids ≡ true → textFault v ≡ 0
 
 -- ---- the stages of the definitions
 

@@ -5,7 +5,7 @@ ghost use Prim.Native.Nat.{_+_, _-_, _*_, _<_, _≤_};
 ghost use lib.ListN.{length, drop};
 ghost use Rattle.metafile.specs.Bytes.{starts};
 ghost use Rattle.metafile.specs.Multi.{miniLabel, miniData, miniFault, minisFault, minisEnd};
-ghost use Rattle.multi.specs.Part.{partOf, keptIDs, firstMini, miniRest};
+ghost use Rattle.multi.specs.Part.{partOf, keptIDs, textIDs, firstMini, miniRest};
 use crate::Part;
 use crate::runs;
 use crate::types;
@@ -41,18 +41,22 @@ fn data_fault(r: &[u8], at: usize) -> u8
     runs::free_fault(r, at + 12, runs::length_at(r, at))
 }
 
-// The mini-chunk at a place, its label there; its short ID is an A10 as a type's is, one of the n that are declared.
+// The mini-chunk at a place, its label there; its short ID is an A10 as a type's is, one of the n that are declared; what
+// is declared is a text, so that only the text of another is judged.
 fn mini_fault(r: &[u8], at: usize, ids: &[u8], n: usize) -> u8
     requires { ⌜ (at ≤ length (now r)) × (n * 10 ≤ length (now ids)) ⌝ }
     requires { ⌜ starts miniLabel (drop at (now r)) ≡ true ⌝ }
+    requires { ⌜ textIDs (keptIDs n (now ids)) ⌝ }
     ensures { λ f. ⌜ f ≡ miniFault (keptIDs n (now (ids .entry))) (drop at (now (r .entry))) ⌝ }
 {
-    let f = lines::short_id_fault(r, at + 10);
-    if f != 0 {
-        return f;
+    if r.len() - at < 20 {
+        return 4;
     }
-    let declared = types::is_kept(&r[at + 10..at + 20], ids, n);
-    if declared { data_fault(r, at + 20) } else { 8 }
+    if types::is_kept(&r[at + 10..at + 20], ids, n) {
+        return data_fault(r, at + 20);
+    }
+    let f = lines::short_id_fault(r, at + 10);
+    if f != 0 { f } else { 8 }
 }
 
 // The bytes of a mini-chunk that is whole.
@@ -66,6 +70,7 @@ pub fn mini_bytes(r: &[u8], at: usize) -> usize
 // The mini-chunks from a place on, and their end.
 pub fn minis_part(r: &[u8], start: usize, ids: &[u8], n: usize) -> Part
     requires { ⌜ (start ≤ length (now r)) × (n * 10 ≤ length (now ids)) ⌝ }
+    requires { ⌜ textIDs (keptIDs n (now ids)) ⌝ }
     ensures { λ p. ⌜ p ≡ partOf (minisFault (keptIDs n (now (ids .entry))) 0 (drop start (now (r .entry)))) (start + minisEnd 0 (drop start (now (r .entry)))) ⌝ }
 {
     let mut at = start;

@@ -1,10 +1,10 @@
 // The reading without a table, as the scope paper has it under "File header" and "Reading": the file header, one step
 // of the reading, the walk to a row, and whether a serial number is already in a row. Nothing is kept between the steps
-// but an index of the rows' serial numbers, which the caller lends: how many rows are entered, and a hash of each. Where
+// but an index of the rows' serial numbers, which the caller lends: how many rows are entered, and a tag of each. Where
 // the index says that a serial number is new, it is; where it does not, or a row found no room in it, the file's own chunks
 // are gone through. Contracts cite Header, Reading, Append.rowNo and Calls.rowWith of the crate metafile, and specs/Walk,
 // Index and Survey of this one; the laws are in proofs/Steps and Index.
-// Rests on chunk for one chunk, on index for the hashes, on lines and fields for the header's lines and values, on sums.
+// Rests on chunk for one chunk, on index for the tags, on lines and fields for the header's lines and values, on sums.
 //     answers  what the functions answer
 //     headers  the file header: strategy, mark, end, sum
 //     earlier  serial numbers of earlier rows: looked up, and entered into the index

@@ -2,7 +2,7 @@
 use native.Mathlib.Omega.{arith}
 use borrow.Author.Needs.{needs}
 use Rattle.multi.proofs.Places.{none}
-use Rattle.multi.proofs.Contents.{head-fits, head-most, multi-head, multi-types, place-inside, multi-first, multi-minis}
+use Rattle.multi.proofs.Contents.{head-fits, head-most, multi-head, multi-types, place-inside, texts-kept, multi-first, multi-minis}
 use Rattle.multi.proofs.multi_part.Statement.{statement}
 use Rattle.multi.proofs.multi_part.Tie as tie
 
@@ -66,18 +66,17 @@ minis-part-requires : tie.Need-minis-part-requires
 minis-part-requires c κs =
     let a = c .before .before .before .before .before .before .before .before .before .before .before .before .args
     in
-    let most = head-most (a .r .now)
-    (none (c .before .before .before .before .before .before .before .before .before .before .head-fault .ensures)
-    (c .before .before .before .before .before .before .before .before .before .if1 .left)) in
-    let kept = c .before .before .before .before .before .before .types-part .kept .1 .1 .0 in (
-      place-inside (a .r .now)
-          (none (c .before .before .before .before .before .before .before .before .before .before .head-fault .ensures)
-          (c .before .before .before .before .before .before .before .before .before .if1 .left)) _
-          (rw (c .before .before .before .before .before .before .before .before .type-count .ensures) at
-          (c .before .before .before .before .before .before .types-part .ensures .0))
-          (c .before .before .before .if2 .left),
-      omega
-          (arith, c .before .before .before .before .before .before .before .before .type-count .ensures),
+    let head = none
+    (c .before .before .before .before .before .before .before .before .before .before .head-fault .ensures)
+    (c .before .before .before .before .before .before .before .before .before .if1 .left) in
+    let most = head-most (a .r .now) head in
+    let count = c .before .before .before .before .before .before .before .before .type-count .ensures in
+    let types = c .before .before .before .before .before .before .types-part in
+    let part = rw count at (types .ensures .0) in
+    let passed = c .before .before .before .if2 .left in
+    let kept = types .kept .1 .1 .0 in (
+      (place-inside (a .r .now) head _ part passed, omega (arith, count)),
+      texts-kept (a .r .now) head _ part passed _ _ count (types .ensures .1 passed),
     )
 
 returns-4 : tie.Need-returns-4

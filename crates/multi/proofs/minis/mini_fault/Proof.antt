@@ -3,23 +3,17 @@ use mathlib.Core.Path.{sym, _∙_}
 use native.Mathlib.Omega.{arith}
 use borrow.Author.Needs.{needs}
 use Rattle.multi.proofs.Places.{none, stop}
-use Rattle.multi.proofs.MiniStages.{label-fits, id-fits, mini-stages, mini-declared, mini-undeclared}
+use Rattle.multi.proofs.MiniStages.{mini-stages, mini-short, mini-declared, mini-undeclared}
 use Rattle.multi.proofs.minis.mini_fault.Statement.{statement}
 use Rattle.multi.proofs.minis.mini_fault.Tie as tie
 
-add-short-id-fault : tie.Need-add-short-id-fault
-add-short-id-fault c = search needs
-
-short-id-fault-requires : tie.Need-short-id-fault-requires
-short-id-fault-requires c κs =
-    let a = c .before .before .args in
-    label-fits (a .at) (a .r .now) (c .before .before .pre .1) (omega arith)
+sub-if1 : tie.Need-sub-if1
+sub-if1 c = search needs
 
 returns : tie.Need-returns
 returns c =
-    let a = c .before .before .before .before .args in
-    stop _ _ _ (c .before .short-id-fault .ensures) (c .if1 .taken) ∙ sym
-    (mini-stages (a .at) (a .r .now) (c .before .before .before .before .pre .1) _)
+    let s = c .before .before .before in
+    mini-short (s .args .at) (s .args .r .now) (s .pre .1 .0) _ (omega arith)
 
 add-is-kept : tie.Need-add-is-kept
 add-is-kept c = search needs
@@ -34,10 +28,7 @@ part-is-kept-start : tie.Need-part-is-kept-start
 part-is-kept-start c = search needs
 
 part-is-kept-end : tie.Need-part-is-kept-end
-part-is-kept-end c =
-    let a = c .before .before .before .before .args in
-    id-fits (a .at) (a .r .now) (c .before .before .before .before .pre .1)
-    (none (c .before .short-id-fault .ensures) (c .if1 .left)) (omega arith)
+part-is-kept-end c = search needs
 
 is-kept-requires : tie.Need-is-kept-requires
 is-kept-requires c κs = search needs
@@ -46,33 +37,37 @@ add-data-fault : tie.Need-add-data-fault
 add-data-fault c = search needs
 
 data-fault-requires : tie.Need-data-fault-requires
-data-fault-requires c κs =
-    let a = c .before .before .before .before .before .before .before .args in
-    id-fits (a .at) (a .r .now) (c .before .before .before .before .before .before .before .pre .1)
-    (none (c .before .before .before .before .short-id-fault .ensures) (c .before .before .before .if1 .left))
-    (omega arith)
+data-fault-requires c κs = search needs
 
 returns-2 : tie.Need-returns-2
 returns-2 c =
-    let a = c .before .before .before .before .before .before .before .before .args in
-    mini-declared (a .at) (a .r .now) (c .before .before .before .before .before .before .before .before .pre .1)
-    (none (c .before .before .before .before .before .short-id-fault .ensures)
-    (c .before .before .before .before .if1 .left))
-    _ (c .before .before .is-kept .ensures) _ (c .before .if2 .taken) (c .data-fault .ensures)
+    let s = c .before .before .before .before .before .before .before in
+    mini-declared (s .args .at) (s .args .r .now) (s .pre .1 .0) _ (c .before .before .is-kept .ensures) _ (s .pre .1 .1)
+    (omega arith) (c .before .if2 .taken) (c .data-fault .ensures)
+
+add-short-id-fault : tie.Need-add-short-id-fault
+add-short-id-fault c = search needs
+
+short-id-fault-requires : tie.Need-short-id-fault-requires
+short-id-fault-requires c κs = search needs
 
 returns-3 : tie.Need-returns-3
 returns-3 c =
-    let a = c .before .before .before .before .before .before .before .args in
-    mini-undeclared (a .at) (a .r .now) (c .before .before .before .before .before .before .before .pre .1)
-    (none (c .before .before .before .before .short-id-fault .ensures) (c .before .before .before .if1 .left))
-    _ (c .before .is-kept .ensures) (c .if2 .left)
+    let s = c .before .before .before .before .before .before .before .before in
+    stop _ _ _ (c .before .short-id-fault .ensures) (c .if3 .taken)
+    ∙ sym (mini-stages (s .args .at) (s .args .r .now) (s .pre .1 .0) _)
+
+returns-4 : tie.Need-returns-4
+returns-4 c =
+    let s = c .before .before .before .before .before .before .before .before in
+    mini-undeclared (s .args .at) (s .args .r .now) (s .pre .1 .0) _ (c .before .before .before .is-kept .ensures)
+    (c .before .before .if2 .left) (none (c .before .short-id-fault .ensures) (c .if3 .left))
 
 pub mini-fault-spec : {M : Type 1} → statement M
 mini-fault-spec =
     tie.close
     (tie.spec
-    add-short-id-fault
-    short-id-fault-requires
+    sub-if1
     returns
     add-is-kept
     add-is-kept-2
@@ -83,4 +78,7 @@ mini-fault-spec =
     add-data-fault
     data-fault-requires
     returns-2
-    returns-3)
+    add-short-id-fault
+    short-id-fault-requires
+    returns-3
+    returns-4)

@@ -26,8 +26,10 @@ is-mini-requires c κs = c .loop .inv .0 .inside
 
 mini-fault-requires : tie.Need-mini-fault-requires Inv-loop μ-loop
 mini-fault-requires c κs =
-    let l = c .before .before .loop in
-    ((l .inv .0 .inside, l .inv .1), sym (c .before .is-mini .ensures) ∙ c .if1 .taken)
+    let l = c .before .before .loop in (
+      (l .inv .0 .inside, l .inv .1),
+      (sym (c .before .is-mini .ensures) ∙ c .if1 .taken, c .before .before .before .before .before .pre .1),
+    )
 
 returns : tie.Need-returns Inv-loop μ-loop
 returns c =
