@@ -40,18 +40,25 @@ pub fn room_for(file: &File, parents: usize, bytes: usize) -> Vec<u8> {
     buffer
 }
 
+/// The same description for both: the two types have methods of the same names.
+macro_rules! described {
+    ($description:ty) => {
+        <$description>::new()
+            .sub_format(b"ADS\\DATA\\TEST")
+            .generic_type(*b"TXT")
+            .synch_type(*b"GEN")
+            .time_standard(*b"UTC")
+            .time_offset(*b"+0000      8.035")
+            .event_synch(*b"NUL")
+            .serial_number(files::serial(888_888))
+            .recording(*b"20240229", b"RECORDER")
+            .writing(*b"20240301", b"WRITER")
+    };
+}
+
 #[rustfmt::skip]
 pub fn proved_append<'a>(buffer: &'a mut [u8], length: usize, parents: &'a [usize], data: &'a [u8]) -> impl FnMut() + 'a {
-    let description = ffi::Description::new()
-        .sub_format(b"ADS\\DATA\\TEST")
-        .generic_type(*b"TXT")
-        .synch_type(*b"GEN")
-        .time_standard(*b"UTC")
-        .time_offset(*b"+0000      8.035")
-        .event_synch(*b"NUL")
-        .serial_number(files::serial(888_888))
-        .recording(*b"20240229", b"RECORDER")
-        .writing(*b"20240301", b"WRITER");
+    let description = described!(ffi::Description);
     move || {
         let ends = ffi::append(black_box(&mut *buffer), length, description, parents, b"", data, false);
         assert_eq!(ends.number, 0);
@@ -60,15 +67,6 @@ pub fn proved_append<'a>(buffer: &'a mut [u8], length: usize, parents: &'a [usiz
 
 #[rustfmt::skip]
 pub fn plain_append<'a>(buffer: &'a mut [u8], length: usize, parents: &'a [usize], data: &'a [u8]) -> impl FnMut() + 'a {
-    let description = plain::Description::new()
-        .sub_format(b"ADS\\DATA\\TEST")
-        .generic_type(*b"TXT")
-        .synch_type(*b"GEN")
-        .time_standard(*b"UTC")
-        .time_offset(*b"+0000      8.035")
-        .event_synch(*b"NUL")
-        .serial_number(files::serial(888_888))
-        .recording(*b"20240229", b"RECORDER")
-        .writing(*b"20240301", b"WRITER");
+    let description = described!(plain::Description);
     move || assert!(plain::append(black_box(&mut *buffer), length, &description, parents, b"", data, false).is_ok())
 }
