@@ -16,7 +16,7 @@ use lib.ListN.{length, take, drop, getD, length-take, drop-of-length-le}
 use lib.Seq.{drop-cons, drop-drop}
 use borrow.Author.Tests.{eq-eqb, ne-eqb}
 use Rattle.metafile.specs.Bytes.{part, isZero}
-use Rattle.laws.proofs.First.{test}
+use Rattle.laws.proofs.First.{test, isZero-is, isZero-not}
 use Rattle.laws.proofs.Loops.{part-drop}
 use Rattle.index.specs.Index.{joinedBytes, weightedFrom, weights, tagOf, slotOf, firstOf, placeFor}
 
@@ -57,15 +57,6 @@ square-small m h = mul-le-mul-right m (omega arith)
 
 -- ---- the first entry that is empty or the tag
 
-zero-is : (x : ℕ) → x ≡ 0 → isZero x ≡ true
-unfolding isZero
-zero-is x e = rw e
-
-zero-not : (x : ℕ) → (x ≡ 0 → ⊥) → isZero x ≡ false
-unfolding isZero
-zero-not zero n = absurd (n refl)
-zero-not (suc x) n = refl
-
 module _ (t : ℕ) (xs : List ℕ) (i : ℕ) (e : firstOf t xs ≡ i + firstOf t (drop i xs)) where
   pub first-end : length xs ≤ i → i ≡ firstOf t xs
   unfolding firstOf
@@ -74,16 +65,16 @@ module _ (t : ℕ) (xs : List ℕ) (i : ℕ) (e : firstOf t xs ≡ i + firstOf t
   module _ (l : i < length xs) where
     pub first-empty : getD xs i 0 ≡ 0 → i ≡ firstOf t xs
     unfolding firstOf
-    first-empty z = sym (e ∙ rw (drop-cons xs i 0 l, zero-is (getD xs i 0) z) (omega arith))
+    first-empty z = sym (e ∙ rw (drop-cons xs i 0 l, isZero-is (getD xs i 0) z) (omega arith))
 
     module _ (n : getD xs i 0 ≡ 0 → ⊥) where
       pub first-this : getD xs i 0 ≡ t → i ≡ firstOf t xs
       unfolding firstOf
-      first-this q = sym (e ∙ rw (drop-cons xs i 0 l, zero-not (getD xs i 0) n, eq-eqb (getD xs i 0) t q) (omega arith))
+      first-this q = sym (e ∙ rw (drop-cons xs i 0 l, isZero-not (getD xs i 0) n, eq-eqb (getD xs i 0) t q) (omega arith))
 
       pub first-next : (getD xs i 0 ≡ t → ⊥) → firstOf t xs ≡ i + 1 + firstOf t (drop (i + 1) xs)
       unfolding firstOf
-      first-next q = e ∙ rw (drop-cons xs i 0 l, zero-not (getD xs i 0) n, ne-eqb (getD xs i 0) t q, add-one) (omega arith)
+      first-next q = e ∙ rw (drop-cons xs i 0 l, isZero-not (getD xs i 0) n, ne-eqb (getD xs i 0) t q, add-one) (omega arith)
 
 first-fits : (t : ℕ) (xs : List ℕ) → firstOf t xs ≤ length xs
 unfolding firstOf

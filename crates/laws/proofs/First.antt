@@ -1,6 +1,6 @@
 -- Tests on bools and numbers that keep their equation, and the first fault of stages in a row.
 --     test cases          go by the cases of a test or a number
---     and-both both-and   _&&_; or-left or-right or-false: _||_
+--     and-both both-and   _&&_; or-left or-right or-false: _||_; isZero-..: a number that is 0, or not
 --     ⊳-left ⊳-right      stages that have no fault; ⊳-both: the other way; ⊳-stop, ⊳-go: one step
 --     require-true ..     a required test
 -- Assumes nothing.
@@ -49,6 +49,15 @@ pub isZero-zero : (n : ℕ) → isZero n ≡ true → n ≡ 0
 unfolding isZero
 isZero-zero zero e = refl
 isZero-zero (suc n) e = untrue e
+
+pub isZero-is : (n : ℕ) → n ≡ 0 → isZero n ≡ true
+unfolding isZero
+isZero-is n e = rw e
+
+pub isZero-not : (n : ℕ) → (n ≡ 0 → ⊥) → isZero n ≡ false
+unfolding isZero
+isZero-not zero h = absurd (h refl)
+isZero-not (suc n) h = refl
 
 -- ---- the first fault
 

@@ -18,7 +18,7 @@ use Rattle.metafile.specs.Closing.{closing, sumPlace, closingEnd, sumGood}
 use Rattle.metafile.specs.Multi.{miniLabel}
 use Rattle.metafile.specs.Header.{title, isLLC, markLength, markOf, titleFault, markFault, headerFault, headerEnd, headerGood}
 use Rattle.table.specs.Codes.{linesFrom}
-use Rattle.laws.proofs.First.{cases, ⊳-stop, ⊳-go, require-met, require-unmet, choose-go, choose-stop}
+use Rattle.laws.proofs.First.{cases, isZero-is, isZero-not, ⊳-stop, ⊳-go, require-met, require-unmet, choose-go, choose-stop}
 use Rattle.laws.proofs.Loops.{part-drop}
 use Rattle.laws.proofs.Table.{field-short, field-long, field-enough}
 use Rattle.laws.proofs.Distances.{lines}
@@ -52,15 +52,6 @@ llc-is = refl
 pub isLLC-is : (file : List ℕ) → same (part 58 3 file) (wordNo 0) ≡ isLLC file
 unfolding isLLC
 isLLC-is file = ap (same (part 58 3 file)) llc-is
-
-isZero-not : (n : ℕ) → (n ≡ 0 → ⊥) → isZero n ≡ false
-unfolding isZero
-isZero-not zero h = absurd (h refl)
-isZero-not (suc n) h = refl
-
-isZero-is : (n : ℕ) → n ≡ 0 → isZero n ≡ true
-unfolding isZero
-isZero-is n e = rw e
 
 module _ (v : List ℕ) (f : ℕ) (run-is : f ≡ run (linesOf (linesFrom 22 2)) v) where
   pub title-wrong : (f ≡ 0 → ⊥) → 1 ≡ titleFault v
