@@ -1,4 +1,3 @@
 pub mod Words
 pub mod Parts
 pub mod Values
-pub mod Stretches

@@ -1,51 +1,53 @@
-// The lines that a file has most of: those of a chunk's head, its content length and its integrity data. Where every
-// label and LF stands and every value is good there is no fault; else the lines are gone through one by one for the
-// first.
+// The lines that a file has most of: those of a chunk's head, its content length and its integrity data. The numbers of the
+// lines stand here, so that the compiler knows each line's label, kind, width and place; all of them come from the
+// table. Where no line has a fault there is none; else the lines are gone through one by one for the first.
 ghost use mathlib.Core.Path.{_≡_};
 ghost use Prim.Native.Nat.{_≤_};
 ghost use lib.ListN.{length, drop};
 ghost use Rattle.metafile.specs.Lines.{kindFault, opened, linesOf, run};
 ghost use Rattle.table.specs.Codes.{lineNo, linesFrom};
-ghost use Rattle.lines.specs.Stretches.{headGood, integrityGood};
-use crate::judge;
+use crate::reader::VALUE;
+use crate::reader::read_field;
+use crate::run::line_bytes;
+use crate::run::line_fault;
 use crate::run::lines_fault;
 use crate::run::opened_fault;
-use crate::words;
 
-// The values from Chunk_Header_Length to Chunk_Dependency_Length have no fault.
-fn head_good(s: &[u8]) -> bool
-    requires { ⌜ 540 ≤ length (now s) ⌝ }
-    ensures { λ r. ⌜ r ≡ headGood (now (s .entry)) ⌝ }
+// The bytes of the lines from Chunk_Header_Length to Chunk_Dependency_Length.
+fn head_bytes() -> usize
+    ensures { λ r. ⌜ r ≡ 540 ⌝ }
 {
-    (judge::number_fault(s, 20, 12) == 0)
-        & (judge::text_fault(s, 46, 256) == 0)
-        & (judge::word_fault(s, 316, words::BIN, words::TXT) == 0)
-        & (judge::word_fault(s, 342, words::GEN, words::SPE) == 0)
-        & (judge::standard_fault(s, 366) == 0)
-        & (judge::offset_fault(s, 426) == 0)
-        & (judge::event_fault(s, 461) == 0)
-        & (judge::number_fault(s, 527, 12) == 0)
+    line_bytes(0)
+        + line_bytes(1)
+        + line_bytes(2)
+        + line_bytes(3)
+        + line_bytes(4)
+        + line_bytes(5)
+        + line_bytes(6)
+        + line_bytes(7)
 }
 
-// The values of the integrity data have no fault.
-fn integrity_good(s: &[u8]) -> bool
-    requires { ⌜ 254 ≤ length (now s) ⌝ }
-    ensures { λ r. ⌜ r ≡ integrityGood (now (s .entry)) ⌝ }
-{
-    (judge::serial_fault(s, 20) == 0)
-        & (judge::date_fault(s, 80) == 0)
-        & (judge::text_fault(s, 111, 32) == 0)
-        & (judge::date_fault(s, 163) == 0)
-        & (judge::text_fault(s, 192, 32) == 0)
-        & (judge::count_fault(s, 250, 3, 255) == 0)
-}
-
-// The lines from Chunk_Header_Length to Chunk_Dependency_Length.
+// These lines.
 pub fn head_lines_fault(s: &[u8]) -> u8
     ensures { λ r. ⌜ r ≡ run (linesOf (linesFrom 0 8)) (now (s .entry)) ⌝ }
 {
-    if 540 <= s.len() {
-        if table::head_stands(s) & head_good(s) {
+    let b = line_bytes(0);
+    let c = b + line_bytes(1);
+    let d = c + line_bytes(2);
+    let e = d + line_bytes(3);
+    let f = e + line_bytes(4);
+    let g = f + line_bytes(5);
+    let h = g + line_bytes(6);
+    if head_bytes() <= s.len() {
+        if (line_fault(s, 0, 0) == 0)
+            & (line_fault(s, b, 1) == 0)
+            & (line_fault(s, c, 2) == 0)
+            & (line_fault(s, d, 3) == 0)
+            & (line_fault(s, e, 4) == 0)
+            & (line_fault(s, f, 5) == 0)
+            & (line_fault(s, g, 6) == 0)
+            & (line_fault(s, h, 7) == 0)
+        {
             return 0;
         }
     }
@@ -57,23 +59,13 @@ pub fn dependency_count_fault(s: &[u8]) -> u8
     requires { ⌜ 540 ≤ length (now s) ⌝ }
     ensures { λ r. ⌜ r ≡ run (opened (lineNo 8)) (drop 540 (now (s .entry))) ⌝ }
 {
-    if 567 <= s.len() {
-        if table::count_stands(s) & (judge::number_fault(s, 563, 4) == 0) {
-            return 0;
-        }
-    }
-    opened_fault(s, 540, 8)
+    opened_fault(s, head_bytes(), 8)
 }
 
 // Chunk_Content_Length at the start, up to its digits.
 pub fn content_length_fault(s: &[u8]) -> u8
     ensures { λ r. ⌜ r ≡ run (opened (lineNo 11)) (now (s .entry)) ⌝ }
 {
-    if 33 <= s.len() {
-        if table::length_stands(s) & (judge::number_fault(s, 21, 12) == 0) {
-            return 0;
-        }
-    }
     opened_fault(s, 0, 11)
 }
 
@@ -83,8 +75,19 @@ pub fn integrity_fault(s: &[u8], at: usize) -> u8
     ensures { λ r. ⌜ r ≡ run (linesOf (linesFrom 16 6)) (drop at (now (s .entry))) ⌝ }
 {
     let v = &s[at..];
-    if 254 <= v.len() {
-        if table::integrity_stands(v) & integrity_good(v) {
+    let b = line_bytes(16);
+    let c = b + line_bytes(17);
+    let d = c + line_bytes(18);
+    let e = d + line_bytes(19);
+    let f = e + line_bytes(20);
+    if f + line_bytes(21) <= v.len() {
+        if (line_fault(v, 0, 16) == 0)
+            & (line_fault(v, b, 17) == 0)
+            & (line_fault(v, c, 18) == 0)
+            & (line_fault(v, d, 19) == 0)
+            & (line_fault(v, e, 20) == 0)
+            & (line_fault(v, f, 21) == 0)
+        {
             return 0;
         }
     }
@@ -96,12 +99,12 @@ pub fn short_id_fault(s: &[u8], at: usize) -> u8
     requires { ⌜ at ≤ length (now s) ⌝ }
     ensures { λ r. ⌜ r ≡ kindFault (lineNo 15 .kind) (drop at (now (s .entry))) ⌝ }
 {
-    judge::text_fault(s, at, 10)
+    read_field(s, at, 15, VALUE)
 }
 
 pub fn length_fault(s: &[u8], at: usize) -> u8
     requires { ⌜ at ≤ length (now s) ⌝ }
     ensures { λ r. ⌜ r ≡ kindFault (lineNo 12 .kind) (drop at (now (s .entry))) ⌝ }
 {
-    judge::number_fault(s, at, 12)
+    read_field(s, at, 12, VALUE)
 }

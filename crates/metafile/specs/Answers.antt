@@ -69,6 +69,9 @@ pub record Outcome : Type 0 where
   pub answer : Answer
   pub buffer : List ℕ
 
+abbrev pub outcome : Answer → List ℕ → Outcome
+outcome answer buffer = record { answer = answer; buffer = buffer }
+
 -- these bytes at the place p of a buffer; "Bytes past the new end keep their state"
 unfoldable pub placed : ℕ → List ℕ → List ℕ → List ℕ
 placed p v buffer = take p buffer ++ (v ++ drop (p + length v) buffer)

@@ -54,7 +54,7 @@ impl Text32 {
 }
 
 impl Description {
-    // Nothing given: append refuses what is left so (6).
+    // Nothing given: append refuses what is left so (6), but for the texts, which are empty then.
     pub fn new() -> Self
         ensures { λ r. ⌜ r ≡ nothingGiven ⌝ }
     {

@@ -1,6 +1,14 @@
 // The types of a SEG-UKOOA ADS metafile 1.00 that the definitions in specs/ name: the row, the answers of the six
-// calls, and the description of a chunk to append, with its methods (fields_given.rt). specs/ says what each call gives.
+// calls, and the description of a chunk to append, with its methods. specs/ says what each call gives.
+//     fields_given  the description's methods
+//     refusals      the refusal numbers
+//     rows          the row of no chunk
 mod fields_given;
+pub mod refusals;
+mod rows;
+
+// "11 a lent byte buffer over 2^30": limit of specs/Answers
+pub const LIMIT: usize = 1073741824;
 
 // One chunk of the table. Places are counted from the file's first byte.
 #[repr(C)]

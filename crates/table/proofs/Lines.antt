@@ -7,84 +7,118 @@
 -- Assumes nothing.
 use Prim.Native.Nat.{ℕ, zero, suc, _+_, _≤_, _<_}
 use mathlib.Core.Bool.{Bool, true, _&&_}
-use mathlib.Core.Path.{_≡_, refl, ap, _∙_}
-use mathlib.Core.List.{List, [], _∷_, map}
+use mathlib.Core.Path.{_≡_, refl, ap}
+use mathlib.Core.List.{List, [], _∷_}
 use native.Mathlib.Omega.{arith}
 use lib.Dec.{leb, eqb}
-use lib.ListN.{length, getD, List·getD-map, length-take, length-drop}
+use lib.ListN.{length, take, getD, length-take}
 use borrow.Author.Tests.{leb-true, eqb-true}
 use Rattle.table.specs.declared.Kind.{Kind as Code}
 use Rattle.table.specs.declared.Kind.the-variants.{Number, Checksum, Text, Date, Offset, Serial, Generic, Synch, Standard, Event, Strategy}
 use Rattle.table.specs.declared.Line.{Line as CodeLine}
-use Rattle.table.specs.Codes.{lineNo, kindOf, labels, codes, codeNo}
-use Rattle.metafile.specs.Bytes.{part}
+use Rattle.table.specs.Codes.{lineNo, kindOf, labels, labelNo, codes, codeNo}
 use Rattle.metafile.specs.Lines.{Line, width, i12, i4, table, chunkHeaderLength, subFormatID, genericType, timeSynchType, timeStandard, timeOffset, eventSynch, dependencyLength, dependencyCount, dependencySerial, dependencySubFormat, contentLength, multiHeaderLength, typeCount, subTypeLength, shortID, chunkSerial, recordingDate, recordingAgent, writingDate, writingAgent, checksum, formatID, separatorStrategy}
 use Rattle.laws.proofs.First.{and-both}
 
 -- ---- rules of a list, at each place
 
-pub getD-any : {A : Type 0} (l : List A) (i : ℕ) (d e : A) → i < length l → getD l i d ≡ getD l i e
-getD-any [] i d e h = absurd (omega arith)
-getD-any (x ∷ xs) zero d e h = refl
-getD-any (x ∷ xs) (suc i) d e h = getD-any xs i d e (omega arith)
-
-every : (CodeLine → Bool) → List CodeLine → Bool
+every : {A : Type 0} → (A → Bool) → List A → Bool
 every p [] = true
 every p (x ∷ xs) = p x && every p xs
 
-every-at : (p : CodeLine → Bool) (l : List CodeLine) (d : CodeLine) → every p l ≡ true → (i : ℕ) → i < length l → p (getD l i d) ≡ true
+every-at : {A : Type 0} (p : A → Bool) (l : List A) (d : A) → every p l ≡ true → (i : ℕ) → i < length l → p (getD l i d) ≡ true
 unfolding every
 every-at p [] d e i h = absurd (omega arith)
 every-at p (x ∷ xs) d e zero h = and-both (p x) (every p xs) e .0
 every-at p (x ∷ xs) d e (suc i) h = every-at p xs d (and-both (p x) (every p xs) e .1) i (omega arith)
 
+-- ---- the last arm of a match on a number
+
+-- it is none of the first n numbers
+unfoldable pub None : ℕ → ℕ → Type 0
+None i zero = Unit {0}
+None i (suc n) = None i n × (i ≡ n → ⊥)
+
+none-above : (i n : ℕ) → None i n → n ≤ i
+unfolding None
+none-above i zero g = omega arith
+none-above i (suc n) g =
+    let l = none-above i n (g .0) in
+    let d : i ≡ n → ⊥ = g .1 in
+    omega arith
+
+pub last : (i : ℕ) → i < 24 → None i 23 → i ≡ 23
+last i h g = omega (arith, none-above i 23 g)
+
 -- ---- the line that a code stands for
 
-lineOf : CodeLine → Line
-lineOf c = record { label = part (c .label) (c .long) labels; kind = kindOf (c .kind) (c .width) }
+lineOf : List ℕ → CodeLine → Line
+lineOf l c = record { label = take (c .long) l; kind = kindOf (c .kind) (c .width) }
 
-tables : table ≡ map lineOf codes
-unfolding table codes labels lineOf kindOf i12 i4 chunkHeaderLength subFormatID genericType timeSynchType timeStandard timeOffset eventSynch dependencyLength dependencyCount dependencySerial dependencySubFormat contentLength multiHeaderLength typeCount subTypeLength shortID chunkSerial recordingDate recordingAgent writingDate writingAgent checksum formatID separatorStrategy
+joined : List (List ℕ) → List CodeLine → List Line
+joined [] cs = []
+joined (l ∷ ls) [] = []
+joined (l ∷ ls) (c ∷ cs) = lineOf l c ∷ joined ls cs
+
+joined-at : (ls : List (List ℕ)) (cs : List CodeLine) (i : ℕ) (d : Line) (e : CodeLine) → i < length ls → i < length cs
+    → getD (joined ls cs) i d ≡ lineOf (getD ls i []) (getD cs i e)
+unfolding joined
+joined-at [] cs i d e h k = absurd (omega arith)
+joined-at (l ∷ ls) [] i d e h k = absurd (omega arith)
+joined-at (l ∷ ls) (c ∷ cs) zero d e h k = refl
+joined-at (l ∷ ls) (c ∷ cs) (suc i) d e h k = joined-at ls cs i d e (omega arith) (omega arith)
+
+tables : table ≡ joined labels codes
+unfolding table codes labels joined lineOf kindOf i12 i4 chunkHeaderLength subFormatID genericType timeSynchType timeStandard timeOffset eventSynch dependencyLength dependencyCount dependencySerial dependencySubFormat contentLength multiHeaderLength typeCount subTypeLength shortID chunkSerial recordingDate recordingAgent writingDate writingAgent checksum formatID separatorStrategy
 tables = refl
 
 count-is : length codes ≡ 24
 unfolding codes
 count-is = refl
 
-pub line-is : (i : ℕ) → i < 24 → lineNo i ≡ record { label = part (codeNo i .label) (codeNo i .long) labels; kind = kindOf (codeNo i .kind) (codeNo i .width) }
-unfolding lineNo codeNo lineOf
-line-is i h =
-    let none : CodeLine = record { label = 0; long = 0; kind = Code.Number; width = 0 } in
-    let long : i < length (map lineOf codes) = rw (← tables) (unfold table in omega arith) in
-    rw tables (getD-any (map lineOf codes) i checksum (lineOf none) long ∙ List·getD-map lineOf codes i none)
+labels-count : length labels ≡ 24
+unfolding labels
+labels-count = refl
 
-pub label-part : (i : ℕ) → i < 24 → lineNo i .label ≡ part (codeNo i .label) (codeNo i .long) labels
+pub line-is : (i : ℕ) → i < 24 → lineNo i ≡ record { label = take (codeNo i .long) (labelNo i); kind = kindOf (codeNo i .kind) (codeNo i .width) }
+unfolding lineNo codeNo labelNo lineOf
+line-is i h =
+    rw tables (joined-at labels codes i checksum (record { long = 0; kind = Code.Number; width = 0 }) (omega (arith, labels-count)) (omega (arith, count-is)))
+
+pub label-part : (i : ℕ) → i < 24 → lineNo i .label ≡ take (codeNo i .long) (labelNo i)
 label-part i h = ap (λ (l : Line). l .label) (line-is i h)
 
 pub kind-is : (i : ℕ) → i < 24 → lineNo i .kind ≡ kindOf (codeNo i .kind) (codeNo i .width)
 kind-is i h = ap (λ (l : Line). l .kind) (line-is i h)
 
--- ---- labels stand among the labels
+-- ---- labels stand in the bytes that the code has for each
 
 inside : CodeLine → Bool
-inside c = leb (c .label + c .long) 512
+inside c = leb (c .long) 38
 
 all-inside : every inside codes ≡ true
 unfolding every inside codes
 all-inside = refl
 
-pub label-fits : (i : ℕ) → i < 24 → codeNo i .label + codeNo i .long ≤ 512
+pub label-fits : (i : ℕ) → i < 24 → codeNo i .long ≤ 38
 unfolding codeNo inside
 label-fits i h =
-    leb-true _ _ (every-at inside codes (record { label = 0; long = 0; kind = Code.Number; width = 0 }) all-inside i (omega (arith, count-is)))
+    leb-true _ _ (every-at inside codes (record { long = 0; kind = Code.Number; width = 0 }) all-inside i (omega (arith, count-is)))
 
-pub labels-long : length labels ≡ 512
-unfolding labels
-labels-long = refl
+filled : List ℕ → Bool
+filled l = eqb (length l) 38
+
+all-filled : every filled labels ≡ true
+unfolding every filled labels
+all-filled = refl
+
+pub labels-long : (i : ℕ) → i < 24 → length (labelNo i) ≡ 38
+unfolding labelNo filled
+labels-long i h = eqb-true _ _ (every-at filled labels [] all-filled i (omega (arith, labels-count)))
 
 pub label-long : (i : ℕ) → i < 24 → length (lineNo i .label) ≡ codeNo i .long
 label-long i h =
-    rw (label-part i h) (simp (length-take, length-drop) (omega (arith, label-fits i h, labels-long)))
+    rw (label-part i h) (simp length-take (omega (arith, label-fits i h, labels-long i h)))
 
 -- ---- the widths of the code are those of the kinds
 
@@ -99,7 +133,7 @@ pub width-is : (i : ℕ) → i < 24 → width (lineNo i .kind) ≡ codeNo i .wid
 unfolding codeNo wide
 width-is i h =
     rw (kind-is i h)
-    (eqb-true _ _ (every-at wide codes (record { label = 0; long = 0; kind = Code.Number; width = 0 }) all-wide i (omega (arith, count-is))))
+    (eqb-true _ _ (every-at wide codes (record { long = 0; kind = Code.Number; width = 0 }) all-wide i (omega (arith, count-is))))
 
 -- the widths are small, those of numbers at most 12
 most : Code → ℕ
@@ -126,7 +160,7 @@ module _ (i : ℕ) (h : i < 24) where
   narrow-at : (codeNo i .width ≤ most (codeNo i .kind)) × (codeNo i .width ≤ 256)
   unfolding codeNo narrow
   narrow-at =
-      let e = and-both _ _ (every-at narrow codes (record { label = 0; long = 0; kind = Code.Number; width = 0 }) all-narrow i (omega (arith, count-is))) in
+      let e = and-both _ _ (every-at narrow codes (record { long = 0; kind = Code.Number; width = 0 }) all-narrow i (omega (arith, count-is))) in
       (leb-true _ _ (e .0), leb-true _ _ (e .1))
 
   pub width-small : codeNo i .width ≤ 256

@@ -7,56 +7,54 @@ use borrow.Author.Needs.{needs}
 use lib.ListN.{length, take, length-set}
 use Rattle.metafile.specs.Answers.{placed}
 use Rattle.laws.proofs.Loops.{placed-nothing}
-use Rattle.table.specs.Codes.{lineNo, labels}
+use Rattle.table.specs.Codes.{lineNo}
 use Rattle.table.proofs.Labels.{label-room, put-fits, put-next, put-end, put-place}
 use Rattle.table.proofs.put_label.Statement.{statement}
 use Rattle.table.proofs.put_label.Tie as tie
 use Rattle.table.proofs.put_label.Reads as reads
 use Rattle.table.proofs.put_label.Lts as lts
+use Rattle.table.proofs.label_at.Reads as label-at-reads
 use Rattle.table.proofs.line_at.Reads as line-at-reads
 
 abbrev Inv-loop : tie.InvT-loop
-Inv-loop buffer₀ at i from long labels₀ k₀ buffer k =
+Inv-loop buffer₀ at i long label k₀ buffer k =
     (k ≤ long) × (length buffer ≡ length buffer₀) × (buffer ≡ placed at (take k (lineNo i .label)) buffer₀)
 
 abbrev μ-loop : tie.MeasureT-loop
-μ-loop buffer₀ at i from long labels₀ k₀ buffer k = long - k
+μ-loop buffer₀ at i long label k₀ buffer k = long - k
 
 line-at-requires : tie.Need-line-at-requires Inv-loop μ-loop
 line-at-requires c κs = search needs
 
-cast-from : tie.Need-cast-from Inv-loop μ-loop
-cast-from c = search needs
-
 cast-long : tie.Need-cast-long Inv-loop μ-loop
 cast-long c = search needs
 
+label-at-requires : tie.Need-label-at-requires Inv-loop μ-loop
+label-at-requires c κs = search needs
+
 loop-holds : tie.Need-loop-holds Inv-loop μ-loop
 loop-holds c = (omega arith, refl, sym (placed-nothing _ _))
-
-add-buffer : tie.Need-add-buffer Inv-loop μ-loop
-add-buffer c =
-    let start = c .before .before .before .before .before .before in
-    let line = c .before .before .before .before .line-at in
-    omega (arith, label-room (start .args .i) (omega arith) (line .result) (line .ensures))
 
 array-read-buffer : tie.Need-array-read-buffer Inv-loop μ-loop
 array-read-buffer c =
     let start = c .before .before .before .before .before .before in
     let line = c .before .before .before .before .line-at in
-    omega (arith, label-room (start .args .i) (omega arith) (line .result) (line .ensures))
+    let label = c .before .before .label-at in
+    omega (arith, label-room (start .args .i) (omega arith) (line .result) (line .ensures) (label .result) (label .ensures))
 
-add-buffer-2 : tie.Need-add-buffer-2 Inv-loop μ-loop
-add-buffer-2 c =
+add-buffer : tie.Need-add-buffer Inv-loop μ-loop
+add-buffer c =
     let start = c .before .before .before .before .before .before in
     let line = c .before .before .before .before .line-at in
-    omega (arith, put-fits (start .args .i) (omega arith) (line .result) (line .ensures) (start .args .buffer .now) (start .args .at) (omega arith))
+    let label = c .before .before .label-at in
+    omega (arith, put-fits (start .args .i) (omega arith) (line .result) (line .ensures) (label .result) (label .ensures) (start .args .buffer .now) (start .args .at) (omega arith))
 
 slice-write-buffer : tie.Need-slice-write-buffer Inv-loop μ-loop
 slice-write-buffer c =
     let start = c .before .before .before .before .before .before in
     let line = c .before .before .before .before .line-at in
-    omega (arith, put-fits (start .args .i) (omega arith) (line .result) (line .ensures) (start .args .buffer .now) (start .args .at) (omega arith))
+    let label = c .before .before .label-at in
+    omega (arith, put-fits (start .args .i) (omega arith) (line .result) (line .ensures) (label .result) (label .ensures) (start .args .buffer .now) (start .args .at) (omega arith))
 
 add-k : tie.Need-add-k Inv-loop μ-loop
 add-k c = omega arith
@@ -65,19 +63,20 @@ loop-less : tie.Need-loop-less Inv-loop μ-loop
 loop-less c = omega arith
 
 loop-again : tie.Need-loop-again Inv-loop μ-loop
-unfolding labels
 loop-again c =
     let at = c .before .before .before .before .before .before .args in
     let line = c .before .before .before .before .line-at in
+    let label = c .before .before .label-at in
     let head = c .before .loop in
-    let next = put-next (at .i) (omega arith) (line .result) (line .ensures) (at .buffer .now) (at .at) (omega arith) (head .buffer) (head .k) (omega arith) (head .inv .2) in
+    let next = put-next (at .i) (omega arith) (line .result) (line .ensures) (label .result) (label .ensures) (at .buffer .now) (at .at) (omega arith) (head .buffer) (head .k) (omega arith) (head .inv .2) in
     (omega arith, simp length-set (head .inv .1), next)
 
 add-result : tie.Need-add-result Inv-loop μ-loop
 add-result c =
     let start = c .before .before .before .before .before .before in
     let line = c .before .before .before .before .line-at in
-    omega (arith, put-fits (start .args .i) (omega arith) (line .result) (line .ensures) (start .args .buffer .now) (start .args .at) (omega arith))
+    let label = c .before .before .label-at in
+    omega (arith, put-fits (start .args .i) (omega arith) (line .result) (line .ensures) (label .result) (label .ensures) (start .args .buffer .now) (start .args .at) (omega arith))
 
 same-length : tie.Need-same-length Inv-loop μ-loop
 same-length c = c .before .loop .inv .1
@@ -86,9 +85,10 @@ returns : tie.Need-returns Inv-loop μ-loop
 returns c =
     let at = c .before .before .before .before .before .before .args in
     let line = c .before .before .before .before .line-at in
+    let label = c .before .before .label-at in
     let head = c .before .loop in
-    let place = put-place (at .i) (omega arith) (line .result) (line .ensures) (at .buffer .now) (at .at) (omega arith) in
-    (place, put-end (at .i) (omega arith) (line .result) (line .ensures) (at .buffer .now) (at .at) (omega arith) (head .buffer) (head .k) (omega arith) (head .inv .2))
+    let place = put-place (at .i) (omega arith) (line .result) (line .ensures) (label .result) (label .ensures) (at .buffer .now) (at .at) (omega arith) in
+    (place, put-end (at .i) (omega arith) (line .result) (line .ensures) (label .result) (label .ensures) (at .buffer .now) (at .at) (omega arith) (head .buffer) (head .k) (omega arith) (head .inv .2))
 
 pub put-label-spec : {M : Type 1} → statement M
 put-label-spec =
@@ -97,12 +97,11 @@ put-label-spec =
     Inv-loop
     μ-loop
     line-at-requires
-    cast-from
     cast-long
+    label-at-requires
     loop-holds
-    add-buffer
     array-read-buffer
-    add-buffer-2
+    add-buffer
     slice-write-buffer
     add-k
     loop-less

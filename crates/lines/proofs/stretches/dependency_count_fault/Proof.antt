@@ -1,33 +1,22 @@
 -- `lines::stretches::dependency_count_fault` meets its contract. Assumes nothing.
-use native.Mathlib.Omega.{arith}
+
 use borrow.Author.Needs.{needs}
-use Rattle.metafile.specs.Lines.{kindFault}
-use Rattle.table.specs.Codes.{kindOf, codes, codeNo}
-use Rattle.lines.proofs.Standing.{opened-good}
 use Rattle.lines.proofs.stretches.dependency_count_fault.Statement.{statement}
 use Rattle.lines.proofs.stretches.dependency_count_fault.Tie as tie
+use Rattle.lines.proofs.stretches.dependency_count_fault.Reads as reads
+use Rattle.lines.proofs.stretches.dependency_count_fault.Lts as lts
+use Rattle.lines.proofs.run.opened_fault.Reads as opened-fault-reads
+use Rattle.lines.proofs.stretches.head_bytes.Reads as head-bytes-reads
 
-count-stands-requires : tie.Need-count-stands-requires
-count-stands-requires c κs = search needs
-
-number-fault-requires : tie.Need-number-fault-requires
-number-fault-requires c κs = search needs
-
-returns : tie.Need-returns
-unfolding kindOf kindFault codes codeNo
-returns c =
-    let s = c .before .before .before .before .before .args .s .now in
-    let label = c .before .before .count-stands in
-    let value = c .before .number-fault in
-    opened-good 8 540 s (label .result) (value .result) (omega arith) (label .ensures) (value .ensures) (c .if2 .taken)
+head-bytes-requires : tie.Need-head-bytes-requires
+head-bytes-requires c κs = search needs
 
 opened-fault-requires : tie.Need-opened-fault-requires
 opened-fault-requires c κs = search needs
 
-returns-2 : tie.Need-returns-2
-returns-2 c = search needs
+returns : tie.Need-returns
+returns c = rw (c .before .head-bytes .ensures) at (c .opened-fault .ensures)
 
 pub dependency-count-fault-spec : {M : Type 1} → statement M
 dependency-count-fault-spec =
-    tie.close
-    (tie.spec count-stands-requires number-fault-requires returns opened-fault-requires returns-2)
+    tie.close (tie.spec head-bytes-requires opened-fault-requires returns)

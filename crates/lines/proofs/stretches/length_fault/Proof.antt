@@ -1,19 +1,18 @@
--- `lines::stretches::length_fault` meets its contract: the kind is that of line 12. Assumes nothing.
-use mathlib.Core.Path.{_≡_}
-use native.Mathlib.Omega.{arith}
+-- `lines::stretches::length_fault` meets its contract. Assumes nothing.
+use mathlib.Core.Path.{refl, sym, _∙_}
+use Rattle.lines.proofs.Runs.{part-value}
 use borrow.Author.Needs.{needs}
-use Rattle.metafile.specs.Lines.{kindFault}
-use Rattle.table.specs.Codes.{kindOf, codes, codeNo}
-use Rattle.table.proofs.Lines.{kind-is}
 use Rattle.lines.proofs.stretches.length_fault.Statement.{statement}
 use Rattle.lines.proofs.stretches.length_fault.Tie as tie
+use Rattle.lines.proofs.stretches.length_fault.Reads as reads
+use Rattle.lines.proofs.stretches.length_fault.Lts as lts
+use Rattle.lines.proofs.reader.read_field.Reads as read-field-reads
 
-number-fault-requires : tie.Need-number-fault-requires
-number-fault-requires c κs = search needs
+read-field-requires : tie.Need-read-field-requires
+read-field-requires c κs = search needs
 
 returns : tie.Need-returns
-unfolding kindOf kindFault codes codeNo
-returns c = rw (kind-is 12 (omega arith)) (c .number-fault .ensures)
+returns c = c .read-field .ensures ∙ sym (part-value 12 1 _ refl)
 
 pub length-fault-spec : {M : Type 1} → statement M
-length-fault-spec = tie.close (tie.spec number-fault-requires returns)
+length-fault-spec = tie.close (tie.spec read-field-requires returns)
