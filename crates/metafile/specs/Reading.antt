@@ -65,6 +65,9 @@ unfoldable pub serialsOf : List Row → List (List ℕ)
 serialsOf [] = []
 serialsOf (r ∷ rs) = r .serial ∷ serialsOf rs
 
--- "Clean means number 0 and stop at the file's end."
+-- "Clean means number 0 and stop at the file's end": of a file of so many bytes, by number and stop
+abbrev pub cleanAt : ℕ → ℕ → ℕ → Bool
+cleanAt long number stop = isZero number && eqb stop long
+
 unfoldable pub isClean : List ℕ → Reading → Bool
-isClean file r = isZero (r .number) && eqb (r .stop) (length file)
+isClean file r = cleanAt (length file) (r .number) (r .stop)
