@@ -1,15 +1,15 @@
 /* ads.h: SEG-UKOOA ADS metafiles 1.00, the table of chunks. Link target/staticlib/libads.a (`rt staticlib ads`; x86-64
    Linux). Each function is proved to give what its contract in crates/ads/src says, on any bytes.
 
-   Rules for every signature. The caller lends every buffer, for the time of the call: no call allocates, keeps a pointer,
-   prints, or changes what it is lent by a pointer to const. A pointer with a length is to that many bytes (or rows, or
-   row numbers), all of them set, and is not null, also where the length is 0; `const uint8_t word[3]` is a pointer to just
-   3 bytes. What a call may write must not overlap anything else that is lent to it. Apart from that a call takes any bytes
-   and any numbers. It answers a struct by value. Its `number` is 0, or the number of a refusal (the table below); then the
-   other values are 0 and false and what was lent is untouched. Only ads_read answers its values and rows beside a number.
-   Rows and dependencies count from 0, places from the file's first byte. Texts have no zero byte behind them. A file is
-   lent as a whole, in memory; reading it from disk and writing it there is the caller's. A call may take up to 1 MiB of
-   stack. */
+   Rules for every signature. The caller lends every buffer, for the time of the call: no call allocates, keeps a
+   pointer, prints, or changes what it is lent by a pointer to const. A pointer with a length is to that many bytes
+   (or rows, or row numbers), all of them set, and is not null, also where the length is 0; `const uint8_t word[3]`
+   is a pointer to just 3 bytes. What a call may write must not overlap anything else that is lent to it. Apart from
+   that a call takes any bytes and any numbers. It answers a struct by value (ads_is_clean a bool). Its `number` is
+   0, or the number of a refusal (the table below); then the other values are 0 and false and what was lent is
+   untouched. Only ads_read answers its values and rows beside a number. Rows and dependencies count from 0, places
+   from the file's first byte. Texts have no zero byte behind them. A file is lent as a whole, in memory; reading it
+   from disk and writing it there is the caller's. A call may take up to 1 MiB of stack. */
 #ifndef ADS_H
 #define ADS_H
 
@@ -64,7 +64,7 @@ typedef struct ads_reading {
     size_t count;   /* rows written to the table */
     size_t stop;    /* end of the last chunk in a row, else of the header; 0 if that isn't whole */
     bool good;      /* header sum good; never where the header isn't whole */
-    uint8_t number; /* 0 to 11. The file is clean if it is 0 and stop is the file's length */
+    uint8_t number; /* 0 to 11; ads_is_clean says whether the file is clean */
 } ads_reading;
 
 typedef struct ads_written {
@@ -103,6 +103,10 @@ ads_written ads_begin(const uint8_t strategy[3], const uint8_t *mark, size_t mar
 /* Reads the file into a table of `room` rows. Rows past the count are not written. It answers its values whatever the
    number is: the rows before a fault, or before the table was full, hold. Given 11: count 0, stop 0, not good. */
 ads_reading ads_read(const uint8_t *file, size_t length, ads_row *rows, size_t room);
+
+/* Whether the file is clean, by its reading and its length: number 0 and stop at the file's end. Only to a clean file can
+   ads_append append. */
+bool ads_is_clean(ads_reading reading, size_t length);
 
 /* The calls below judge the file by a reading of their own with rows enough: rows before a fault count. */
 

@@ -1,4 +1,5 @@
 //! What the calls answer.
+use crate::ffi;
 use crate::Refusal;
 
 /// One chunk of the table. Places are counted from the file's first byte.
@@ -59,9 +60,17 @@ pub struct Reading {
 }
 
 impl Reading {
-    /// No refusal, and the reading stopped at the file's end.
+    /// Whether the file is clean: no refusal, and the reading stopped at its end. Only to a clean file can
+    /// [`append`](crate::append) append.
     pub fn is_clean(&self, file: &[u8]) -> bool {
-        self.refusal.is_none() && self.stop == file.len()
+        let reading = ffi::Reading {
+            count: self.count,
+            stop: self.stop,
+            good: self.good,
+            number: self.refusal.map_or(0, Refusal::number),
+        };
+        // safe with any values: all are passed by value
+        unsafe { ffi::ads_is_clean(reading, file.len()) }
     }
 }
 

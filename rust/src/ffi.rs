@@ -54,6 +54,7 @@ extern "C" {
         buffer_length: usize,
     ) -> Written;
     pub fn ads_read(file: *const u8, length: usize, rows: *mut Row, room: usize) -> Reading;
+    pub fn ads_is_clean(reading: Reading, length: usize) -> bool;
     pub fn ads_parent(file: *const u8, length: usize, row: usize, dependency: usize) -> Parent;
     pub fn ads_contents(file: *const u8, length: usize, row: usize) -> Part;
     pub fn ads_gather(

@@ -100,6 +100,7 @@ fn rows_of_the_sample() {
     let cut = ads::read(&file[..1000], &mut rows);
     assert_eq!((cut.count, cut.stop, cut.good), (0, 319, true));
     assert_eq!(cut.refusal.map(|r| r.number()), Some(4));
+    assert!(!cut.is_clean(&file[..1000]) && !reading.is_clean(&file[..1177]));
     let full = ads::read(file, &mut []);
     assert_eq!(full.refusal.map(|r| r.number()), Some(10));
 }

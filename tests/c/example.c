@@ -73,7 +73,7 @@ int main(void)
     ads_row rows[8];
     memset(rows, 0, sizeof rows);
     ads_reading reading = ads_read(buffer, length, rows, 8);
-    bool clean = reading.number == 0 && reading.stop == length;
+    bool clean = ads_is_clean(reading, length);
     printf("%zu rows, %s\n", reading.count, clean ? "clean" : "not clean");
 
     for (size_t k = 0; k < reading.count; k++) {

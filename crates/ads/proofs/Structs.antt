@@ -11,7 +11,7 @@ use native.Mathlib.Omega.{arith}
 use lib.Dec.{ltb}
 use lib.ListN.{length}
 use Rattle.metafile.specs.Bytes.{choose}
-use Rattle.metafile.specs.Answers.{Answer, result, refused, flag, Test, firstRefusal, Outcome, unlessRefused}
+use Rattle.metafile.specs.Answers.{Answer, result, refused, flag, Test, firstRefusal, Outcome, outcome, unlessRefused}
 use Rattle.metafile.specs.Begin.{BeginGiven, begin}
 use Rattle.metafile.specs.Append.{Given, append}
 use Rattle.metafile.specs.Reading.{rowsOf}
@@ -21,7 +21,7 @@ use Rattle.listing_text.specs.Text.{listingOutcome}
 use Rattle.ads.specs.declared.answers.Written.{Written}
 use Rattle.ads.specs.declared.answers.Parent.{Parent}
 use Rattle.ads.specs.declared.answers.Ends.{Ends}
-use Rattle.ads.specs.Answers.{outcome, writtenAnswer, writtenAlone, parentAnswer, parentAlone, endsAnswer, endsAlone}
+use Rattle.ads.specs.Answers.{writtenAnswer, writtenAlone, parentAnswer, parentAlone, endsAnswer, endsAlone}
 
 -- ---- a refused call's number is not 0
 

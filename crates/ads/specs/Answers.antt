@@ -3,19 +3,11 @@
 use Prim.Native.Nat.{ℕ}
 use mathlib.Core.Bool.{false, cond}
 use mathlib.Core.List.{List, [], _∷_}
-use Rattle.metafile.specs.declared.Row.{Row}
-use Rattle.metafile.specs.Bytes.{part, choose}
-use Rattle.metafile.specs.Reading.{rowsOf}
-use Rattle.metafile.specs.Answers.{Answer, result, refused, flag, firstRefusal, Outcome}
-use Rattle.metafile.specs.Append.{rowNo}
-use Rattle.metafile.specs.Calls.{ContentsOutcome, contentsTests}
+use Rattle.metafile.specs.Bytes.{choose}
+use Rattle.metafile.specs.Answers.{Answer, result, refused, flag}
 use Rattle.ads.specs.declared.answers.Written.{Written}
 use Rattle.ads.specs.declared.answers.Parent.{Parent}
 use Rattle.ads.specs.declared.answers.Ends.{Ends}
-use Rattle.ads.specs.declared.answers.Part.{Part}
-
-abbrev pub outcome : Answer → List ℕ → Outcome
-outcome answer buffer = record { answer = answer; buffer = buffer }
 
 -- begin, gather, listing: the length
 unfoldable pub writtenAnswer : Written → Answer
@@ -37,17 +29,3 @@ endsAnswer e = choose (e .number) (result (e .first ∷ e .second ∷ e .third �
 
 abbrev pub endsAlone : ℕ → Ends
 endsAlone n = record { first = 0; second = 0; third = 0; number = n }
-
--- "the part of the file that the row names": contents place and contents bytes; "refused, an empty part and the number"
-unfoldable pub partNamed : Row → Part
-partNamed r = record { place = r .contents; bytes = r .bytes; number = 0 }
-
-abbrev pub partAlone : ℕ → Part
-partAlone n = record { place = 0; bytes = 0; number = n }
-
-unfoldable pub partOf : List ℕ → ℕ → Part
-partOf file k = choose (firstRefusal (contentsTests file k)) (partNamed (rowNo (rowsOf file) k)) partAlone
-
--- what contents hands back, by its place and bytes
-unfoldable pub partOutcome : List ℕ → Part → ContentsOutcome
-partOutcome file p = record { contents = part (p .place) (p .bytes) file; number = p .number }

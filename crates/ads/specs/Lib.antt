@@ -1,3 +1,3 @@
 -- What the contracts cite beside metafile's definitions.
---     Answers   the paper's answer for each struct, and the part that contents names
+--     Answers   the paper's answer for each struct
 pub mod Answers

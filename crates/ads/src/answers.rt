@@ -24,11 +24,3 @@ pub struct Ends {
     pub third: usize,
     pub number: u8,
 }
-
-// ads_part: a part of the file, by its place and its bytes.
-#[repr(C)]
-pub struct Part {
-    pub place: usize,
-    pub bytes: usize,
-    pub number: u8,
-}

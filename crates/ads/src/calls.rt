@@ -3,18 +3,21 @@
 ghost use mathlib.Core.Path.{_≡_};
 ghost use mathlib.Core.Bool.{cond};
 ghost use Rattle.metafile.specs.Bytes.{choose};
+ghost use Rattle.metafile.specs.Reading.{cleanAt};
+ghost use Rattle.metafile.specs.Answers.{outcome};
 ghost use Rattle.metafile.specs.Begin.{begin};
 ghost use Rattle.metafile.specs.Append.{append};
 ghost use Rattle.metafile.specs.Calls.{read, parent, contents, gather};
 ghost use Rattle.begin.specs.Given.{givenOf as begun};
 ghost use Rattle.append.specs.Given.{givenOf};
+ghost use Rattle.contents.specs.Outcome.{partOf, partOutcome};
 ghost use Rattle.read.specs.State.{readOutcome};
 ghost use Rattle.listing_text.specs.Text.{listingOutcome};
-ghost use Rattle.ads.specs.Answers.{outcome, writtenAnswer, writtenAlone, parentAnswer, parentAlone, endsAnswer, endsAlone, partAlone, partOf, partOutcome};
+ghost use Rattle.ads.specs.Answers.{writtenAnswer, writtenAlone, parentAnswer, parentAlone, endsAnswer, endsAlone};
 use crate::answers::Ends;
 use crate::answers::Parent;
-use crate::answers::Part;
 use crate::answers::Written;
+use contents::Part;
 use listing_text::ListingAnswer;
 use metafile::AppendAnswer;
 use metafile::BeginAnswer;
@@ -23,9 +26,6 @@ use metafile::GatherAnswer;
 use metafile::ParentAnswer;
 use metafile::ReadAnswer;
 use metafile::Row;
-
-// 2^30: a longer file is refused, 11.
-const LIMIT: usize = 1073741824;
 
 #[no_mangle]
 pub extern "C" fn ads_begin(
@@ -63,6 +63,14 @@ pub extern "C" fn ads_read(file: &[u8], rows: &mut [Row]) -> ReadAnswer
     ensures answer { λ r. ⌜ readOutcome r (now (rows .exit)) ≡ read (now (file .entry)) (now (rows .entry)) ⌝ }
 {
     read::read(file, rows)
+}
+
+// "Clean means number 0 and stop at the file's end": of a reading of a file of so many bytes.
+#[no_mangle]
+pub extern "C" fn ads_is_clean(reading: ReadAnswer, length: usize) -> bool
+    ensures { λ r. ⌜ r ≡ cleanAt length (reading .number) (reading .stop) ⌝ }
+{
+    (reading.number == 0) & (reading.stop == length)
 }
 
 // "or missing": no row beside a number, 0 included.
@@ -133,39 +141,13 @@ pub extern "C" fn ads_append(
     }
 }
 
-// "refused, an empty part and the number"
-fn no_part(number: u8) -> Part
-    ensures { λ r. ⌜ r ≡ partAlone number ⌝ }
-{
-    Part {
-        place: 0,
-        bytes: 0,
-        number,
-    }
-}
-
-// An exported function can't return a part of the file, so it answers the part's place and bytes. Tests 11, then 13.
+// An exported function can't return a part of the file, so it answers the part's place and bytes.
 #[no_mangle]
 pub extern "C" fn ads_contents(file: &[u8], row: usize) -> Part
     ensures answer { λ r. ⌜ partOutcome (now (file .entry)) r ≡ contents (now (file .entry)) row ⌝ }
     ensures names { λ r. ⌜ r ≡ partOf (now (file .entry)) row ⌝ }
 {
-    if LIMIT < file.len() {
-        return no_part(11);
-    }
-    let h = walk::header(file);
-    if h.number != 0 {
-        return no_part(13);
-    }
-    let found = walk::row_at(file, h, row);
-    if !found.there {
-        return no_part(13);
-    }
-    Part {
-        place: found.place + found.layout.contents,
-        bytes: found.layout.bytes,
-        number: 0,
-    }
+    contents::part_of(file, row)
 }
 
 #[no_mangle]

@@ -2,7 +2,7 @@
 --     Going going      nothing refuses: what was given fits, and there is room for the chunk
 --     first-is first-put   the first write: head, parents, specific data, content length line
 --     closing-is chunk-put   the data and the closing behind it
---     outcome-..       the answer and the buffer
+--     outcome-written  the answer and the buffer
 -- Assumes nothing.
 use Prim.Native.Nat.{ℕ, _+_, _-_, _*_, _≤_}
 use mathlib.Core.Bool.{true, cond, not}
@@ -21,26 +21,29 @@ use Rattle.metafile.specs.Chunk.{head}
 use Rattle.metafile.specs.Reading.{reading}
 use Rattle.metafile.specs.declared.AppendAnswer.{AppendAnswer}
 use Rattle.metafile.specs.declared.AppendAnswer.the-variants.{Ends}
-use Rattle.metafile.specs.Answers.{refused, appendAnswer, firstRefusal, placed, unlessRefused}
+use Rattle.metafile.specs.Answers.{outcome, appendAnswer, firstRefusal, placed, unlessRefused}
 use Rattle.metafile.specs.Append.{Given, integrityGiven, givenValues, appendFormed, headValues, contentCountFor, firstWrite, thirdWrite, newChunk, firstEnd, secondEnd, thirdEnd, appendTests, append}
 use Rattle.metafile.specs.Demand.{Accepted}
-use Rattle.laws.proofs.First.{choose-go, choose-stop}
+use Rattle.laws.proofs.First.{choose-go}
 use Rattle.laws.proofs.Digits.{length-digitsOf}
 use Rattle.laws.proofs.Table.{formed-split, lefts, write-split}
 use Rattle.laws.proofs.Closed.{fixed-formed}
 use Rattle.laws.proofs.Distances.{lines}
 use Rattle.laws.proofs.Accepted.{refusal-none}
+use Rattle.laws.proofs.Outcomes.{outcome-done}
 use Rattle.chunk_laws.proofs.File.{clean-begun}
-use Rattle.demand.proofs.Taken.{Taken, Lent, Appended, accepted}
-use Rattle.demand.proofs.Formed.{formed-head}
-use Rattle.demand.proofs.Stretches.{headPart, linePart, length-head, length-line, length-first, length-third}
+use Rattle.written_laws.proofs.Taken.{Taken, Lent, Appended, accepted}
+use Rattle.written_laws.proofs.Formed.{formed-head}
+use Rattle.written_laws.proofs.Stretches.{headPart, linePart, length-head, length-line, length-first, length-third}
 use Rattle.table.specs.Codes.{linesFrom}
 use Rattle.lines.specs.Values.{chopped, valuesSize, closingFor}
-use Rattle.append.specs.Given.{outcome, endsOf}
-use Rattle.append.specs.Values.{joined, headValuesFor}
-use Rattle.append.proofs.Joined.{Fills, chopped-joined}
-use Rattle.append.proofs.Described.{Fits, formed-fits}
-use Rattle.append.proofs.Written.{fills-formed, placed-next, part-placed, take-placed, parentLines, parents-length}
+use Rattle.append.specs.Given.{endsOf}
+use Rattle.writer.specs.Values.{joined, headValuesFor}
+use Rattle.writer.proofs.Joined.{Fills, chopped-joined}
+use Rattle.writer.proofs.Described.{Fits, formed-fits}
+use Rattle.writer.proofs.Joined.{fills-formed}
+use Rattle.writer.proofs.Placed.{placed-next, part-placed, take-placed}
+use Rattle.writer.proofs.Rows.{parentLines, parents-length}
 
 -- ---- the lines of the table
 
@@ -234,11 +237,7 @@ module _ (buffer : List ℕ) (len : ℕ) (g : Given) (a : Going buffer len g) wh
 -- ---- the outcome
 
 module _ (buffer : List ℕ) (len : ℕ) (g : Given) where
-  pub outcome-refused : (n : ℕ) → n ≡ firstRefusal (appendTests buffer len g) → (n ≡ 0 → ⊥) → outcome (refused n) buffer ≡ append buffer len g
-  unfolding append unlessRefused
-  outcome-refused n e h = rw e (sym (choose-stop (firstRefusal (appendTests buffer len g)) _ _ (λ z. h (e ∙ z))))
-
   pub outcome-written : (r : AppendAnswer) (after : List ℕ) → 0 ≡ firstRefusal (appendTests buffer len g) → r ≡ endsOf (take len buffer) g
       → after ≡ placed len (newChunk (take len buffer) g) buffer → outcome (appendAnswer r) after ≡ append buffer len g
-  unfolding append unlessRefused appendAnswer
-  outcome-written r after e er ea = rw (er, ea) (sym (choose-go (firstRefusal (appendTests buffer len g)) _ _ (sym e)))
+  unfolding append appendAnswer
+  outcome-written r after e er ea = rw (er, ea) (outcome-done (appendTests buffer len g) buffer _ (sym e))

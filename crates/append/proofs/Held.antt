@@ -1,55 +1,55 @@
--- Tests held against the file: 12, 13, 9, 15 and 16, and the lengths of 11.
---     over-six      11
+-- Append's tests in groups: the description's 6 and 17, and those held against the file, 12, 13, 9, 15 and 16.
 --     clean-is      12
+--     refused-6 refused-17 described   the description's two in their order
 --     refused-13 refused-9 refused-15 held   the three in their order
 --     closed-right open-is   16
 -- Assumes nothing.
 use Prim.Native.Nat.{ℕ, zero, suc}
 use mathlib.Core.Bool.{Bool, true, false, not, _&&_, _||_}
-use mathlib.Core.Path.{_≡_, refl, sym, ap, _∙_}
-use mathlib.Core.List.{List, [], _∷_, _++_}
+use mathlib.Core.Path.{_≡_, refl, sym, _∙_}
+use mathlib.Core.List.{List, [], _++_}
 use native.Mathlib.Omega.{arith}
 use lib.Dec.{ltb, eqb}
 use lib.ListN.{length}
 use borrow.Author.Tests.{ne-eqb}
+use Rattle.metafile.specs.declared.Description.{Description}
 use Rattle.metafile.specs.Bytes.{part, isZero, all, nonZero, same, find}
 use Rattle.metafile.specs.Header.{isLLC, markOf}
+use Rattle.metafile.specs.Chunk.{multiName}
 use Rattle.metafile.specs.Reading.{reading, isClean}
-use Rattle.metafile.specs.Answers.{firstRefusal, limit, overLimit}
+use Rattle.metafile.specs.Answers.{firstRefusal}
+use Rattle.metafile.specs.Append.{subFormatGiven, appendFormed}
 use Rattle.laws.proofs.Accepted.{refusal-first, refusal-next}
 use Rattle.lines.specs.Words.{wordNo}
-use Rattle.begin.proofs.Values.{part-whole}
-use Rattle.append.specs.Tests.{fileTests, parentsRefused, openRefused}
-use Rattle.append.proofs.Described.{refused-none}
-
--- ---- 11
-
-or-six : (a b c d e f : Bool) → (((((a || b) || c) || d) || e) || f) ≡ (a || (b || (c || (d || (e || (f || false))))))
-or-six true b c d e f = refl
-or-six false true c d e f = refl
-or-six false false true d e f = refl
-or-six false false false true e f = refl
-or-six false false false false true f = refl
-or-six false false false false false true = refl
-or-six false false false false false false = refl
-
-pub over-six : (a b c d e f n : ℕ)
-    → ((((((ltb 1073741824 a || ltb 1073741824 b) || ltb 1073741824 c) || ltb 1073741824 d) || ltb 1073741824 e) || ltb 1073741824 f) || ltb a n)
-    ≡ (overLimit (a ∷ b ∷ c ∷ d ∷ e ∷ f ∷ []) || ltb a n)
-unfolding overLimit limit
-over-six a b c d e f n =
-    ap (λ (o : Bool). o || ltb a n) (or-six (ltb 1073741824 a) (ltb 1073741824 b) (ltb 1073741824 c) (ltb 1073741824 d) (ltb 1073741824 e) (ltb 1073741824 f))
+use Rattle.writer.proofs.Placed.{part-whole}
+use Rattle.append.specs.Tests.{descriptionTests, fileTests, openRefused}
+use Rattle.writer.specs.Parents.{parentsRefused}
+use Rattle.laws.proofs.First.{isZero-eqb}
 
 -- ---- 12
 
-zero-is : (n : ℕ) → eqb n 0 ≡ isZero n
-unfolding isZero
-zero-is zero = refl
-zero-is (suc n) = ne-eqb (suc n) 0 (λ e. omega arith)
-
 pub clean-is : (file : List ℕ) (number stop : ℕ) → number ≡ reading file .number → stop ≡ reading file .stop → (eqb number 0 && eqb stop (length file)) ≡ isClean file (reading file)
 unfolding isClean
-clean-is file number stop n e = rw (zero-is number, n, e)
+clean-is file number stop n e = rw (isZero-eqb number, n, e)
+
+-- ---- 6, 17
+
+pub refused-none : firstRefusal [] ≡ 0
+unfolding firstRefusal
+refused-none = refl
+
+module _ (d : Description) where
+  pub refused-6 : appendFormed d ≡ false → 6 ≡ firstRefusal (descriptionTests d)
+  unfolding descriptionTests
+  refused-6 e = sym (refusal-first 6 (not (appendFormed d)) _ (rw e))
+
+  pub refused-17 : appendFormed d ≡ true → same (subFormatGiven d) multiName ≡ true → 17 ≡ firstRefusal (descriptionTests d)
+  unfolding descriptionTests
+  refused-17 f e = sym (refusal-next 6 (not (appendFormed d)) _ (rw f) ∙ refusal-first 17 _ [] e)
+
+  pub described : appendFormed d ≡ true → same (subFormatGiven d) multiName ≡ false → 0 ≡ firstRefusal (descriptionTests d)
+  unfolding descriptionTests
+  described f e = sym (refusal-next 6 (not (appendFormed d)) _ (rw f) ∙ refusal-next 17 _ [] e ∙ refused-none)
 
 -- ---- 13, 9, 15
 

@@ -21,10 +21,11 @@ use Rattle.metafile.specs.Append.{Given, subFormatGiven, appendFormed, parentsW
 use Rattle.laws.proofs.First.{test, or-false}
 use Rattle.laws.proofs.Accepted.{refusal-first, refusal-next, refusal-none}
 use Rattle.chunk_laws.proofs.File.{clean-begun}
-use Rattle.demand.proofs.Taken.{Taken, within, clean-parts, formed-parts, parents-parts}
-use Rattle.demand.proofs.Stretches.{length-first, length-third}
-use Rattle.append.specs.Tests.{descriptionTests, parentsRefused, fileTests, openRefused}
-use Rattle.append.proofs.Described.{refused-none}
+use Rattle.written_laws.proofs.Taken.{Taken, within, clean-parts, formed-parts, parents-parts}
+use Rattle.written_laws.proofs.Stretches.{length-first, length-third}
+use Rattle.append.specs.Tests.{descriptionTests, fileTests, openRefused}
+use Rattle.writer.specs.Parents.{parentsRefused}
+use Rattle.append.proofs.Held.{refused-none}
 use Rattle.append.proofs.Surveyed.{testsOf}
 
 -- a group of tests that refuses decides

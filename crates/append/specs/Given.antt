@@ -1,9 +1,8 @@
--- What append is given, from its parameters, and its outcome. Assumes nothing.
+-- What append is given, from its parameters, and the ends that it answers. Assumes nothing.
 use Prim.Native.Nat.{ℕ}
 use mathlib.Core.Bool.{Bool}
 use mathlib.Core.List.{List}
 use Rattle.metafile.specs.declared.Description.{Description}
-use Rattle.metafile.specs.Answers.{Answer, Outcome}
 use Rattle.metafile.specs.declared.AppendAnswer.{AppendAnswer}
 use Rattle.metafile.specs.declared.AppendAnswer.the-variants.{Ends}
 use Rattle.metafile.specs.Append.{Given, firstEnd, secondEnd, thirdEnd}
@@ -18,9 +17,6 @@ givenOf description parents specific contents isOpen =
       contents = contents;
       isOpen = isOpen;
     }
-
-abbrev pub outcome : Answer → List ℕ → Outcome
-outcome answer buffer = record { answer = answer; buffer = buffer }
 
 -- the three ends
 abbrev pub endsOf : List ℕ → Given → AppendAnswer

@@ -10,15 +10,12 @@ use Rattle.metafile.specs.Lines.{BIN}
 use Rattle.metafile.specs.Header.{isLLC, markOf}
 use Rattle.metafile.specs.Chunk.{multiName}
 use Rattle.metafile.specs.Answers.{Test, refuse}
-use Rattle.metafile.specs.Append.{subFormatGiven, appendFormed, allBelow, repeated}
+use Rattle.metafile.specs.Append.{subFormatGiven, appendFormed}
+use Rattle.writer.specs.Parents.{parentsRefused}
 
 -- 6 and 17: the description
 unfoldable pub descriptionTests : Description → List Test
 descriptionTests d = refuse 6 (not (appendFormed d)) ∷ refuse 17 (same (subFormatGiven d) multiName) ∷ []
-
--- 13 for a file of n rows
-unfoldable pub parentsRefused : ℕ → List ℕ → Bool
-parentsRefused n ks = not (allBelow n ks) || repeated ks || ltb 16 (length ks)
 
 -- 13, 9 and 15 for a file of n rows: rows named as parents, the serial number in a row or not, the mark
 unfoldable pub fileTests : List ℕ → ℕ → Bool → List ℕ → List Test

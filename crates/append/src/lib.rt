@@ -1,23 +1,20 @@
 // append: a chunk added to a stored file, in a longer lent buffer. "Three writes, each on disk before the next: header
 // with content length line; data; closing. The answer is the three ends." Its contract is one equation with metafile's
 // Append, refusals included: then every buffer is untouched. The old file is read once, by walk's survey, which the tests
-// and the copies from parents go by. It rests on walk, on lines for the lines that are judged and written, on begin for
-// the values of the integrity data, on search for the mark.
+// and the copies from parents go by. It rests on walk, on lines for the lines that are judged and written, on writer for
+// their values, for 13 and for the lines of parents, on search for the mark.
 //     tests    "Append tests 11, 12, 6, 17, 13, 9, 15, 16, 18"
-//     parents  13: rows named as parents
-//     values   the values of the lines, from the description and from parents
 //     write    the three writes
-mod parents;
 mod tests;
-mod values;
 mod write;
 
 use metafile::AppendAnswer;
 use metafile::Description;
+use metafile::refusals;
 ghost use mathlib.Core.Path.{_≡_};
-ghost use Rattle.metafile.specs.Answers.{appendAnswer};
+ghost use Rattle.metafile.specs.Answers.{outcome, appendAnswer};
 ghost use Rattle.metafile.specs.Append.{append};
-ghost use Rattle.append.specs.Given.{givenOf, outcome};
+ghost use Rattle.append.specs.Given.{givenOf};
 
 pub fn append(
     buffer: &mut [u8],
@@ -39,7 +36,7 @@ pub fn append(
         contents.len(),
         description,
     ) {
-        return AppendAnswer::Refused(11);
+        return AppendAnswer::Refused(refusals::OVER_LIMIT);
     }
     let survey = walk::survey(&buffer[..length], serial, parents);
     let number = tests::refusal(

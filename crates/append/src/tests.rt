@@ -1,9 +1,11 @@
 // Append's tests, in the order 11, 12, 6, 17, 13, 9, 15, 16, 18: the first that refuses gives the number. The file is read
 // between 11 and 12: the others go by its survey.
-use crate::parents::parents_wrong;
-use crate::values::closing_values;
-use crate::values::given_values;
+use lines::words;
 use metafile::Description;
+use metafile::LIMIT;
+use metafile::refusals;
+use table::numbers;
+use table::places;
 use walk::Header;
 use walk::Survey;
 ghost use mathlib.Core.Bool.{false, _||_};
@@ -22,14 +24,8 @@ ghost use Rattle.walk.specs.Survey.{surveyOf};
 ghost use Rattle.append.specs.Given.{givenOf};
 ghost use Rattle.append.specs.Tests.{descriptionTests, fileTests, openRefused};
 
-const LIMIT: usize = 1073741824;
-
-// The listed word BIN, and the first of the lines given and of the integrity data, by their numbers.
-const BIN: usize = 2;
-
-const SUB_FORMAT: usize = 1;
-
-const CHUNK_SERIAL: usize = 16;
+// A chunk's bytes up to its data, without parents and specific data.
+const CHUNK_HEADER: usize = places::DEPENDENCIES + places::CONTENT_LENGTH_BYTES;
 
 // 11: a lent byte buffer over the limit, or length over the buffer's.
 pub fn over_limit(
@@ -68,18 +64,19 @@ fn is_formed(d: Description) -> bool
     let name = d.subformat;
     let recorder = d.recorder;
     let writer = d.writer;
-    if 256 < name.given {
+    if places::NAME < name.given {
         return false;
     }
-    if 32 < recorder.given {
+    if places::AGENT < recorder.given {
         return false;
     }
-    if 32 < writer.given {
+    if places::AGENT < writer.given {
         return false;
     }
-    let given = given_values(d);
-    let closing = closing_values(d);
-    lines::values_formed(SUB_FORMAT, 6, &given) & lines::values_formed(CHUNK_SERIAL, 5, &closing)
+    let given = writer::given_values(d);
+    let closing = writer::closing_values(d);
+    lines::values_formed(numbers::SUB_FORMAT_ID, 6, &given)
+        & lines::values_formed(numbers::CHUNK_SERIAL, 5, &closing)
 }
 
 // 17
@@ -87,18 +84,18 @@ fn is_multichunk(d: Description) -> bool
     requires { ⌜ d .subformat .given ≤ 256 ⌝ }
     ensures { λ r. ⌜ r ≡ same (subFormatGiven d) multiName ⌝ }
 {
-    let given = given_values(d);
-    chunk::is_multi_name(&given[..256])
+    let given = writer::given_values(d);
+    chunk::is_multi_name(&given[..places::NAME])
 }
 
 fn description_refusal(d: Description) -> u8
     ensures { λ r. ⌜ r ≡ firstRefusal (descriptionTests d) ⌝ }
 {
     if !is_formed(d) {
-        return 6;
+        return refusals::FORM;
     }
     if is_multichunk(d) {
-        return 17;
+        return refusals::MULTICHUNK;
     }
     0
 }
@@ -109,15 +106,15 @@ fn file_refusal(file: &[u8], h: Header, count: usize, known: bool, parents: &[us
     requires { ⌜ h .number ≡ 0 ⌝ }
     ensures { λ r. ⌜ r ≡ firstRefusal (fileTests (now (file .entry)) count known (now (parents .entry))) ⌝ }
 {
-    if parents_wrong(count, parents) {
-        return 13;
+    if writer::parents_wrong(count, parents) {
+        return refusals::NO_ROW;
     }
     if known {
-        return 9;
+        return refusals::KNOWN_SERIAL;
     }
-    let end = 65 + h.mark;
-    if !begin::is_clear(&file[65..end]) {
-        return 15;
+    let end = places::MARK + h.mark;
+    if !writer::is_clear(&file[places::MARK..end]) {
+        return refusals::ZERO_IN_MARK;
     }
     0
 }
@@ -138,10 +135,10 @@ fn open_wrong(file: &[u8], h: Header, generic: [u8; 3], contents: &[u8], open: b
     if !open {
         return false;
     }
-    let end = 65 + h.mark;
+    let end = places::MARK + h.mark;
     h.llc
-        | lines::is_word(&generic, 0, BIN)
-        | (first_found(&file[65..end], contents) < contents.len())
+        | lines::is_word(&generic, 0, words::BIN)
+        | (first_found(&file[places::MARK..end], contents) < contents.len())
 }
 
 // The place behind the new chunk.
@@ -149,7 +146,10 @@ fn new_end(length: usize, parents: usize, specific: usize, contents: usize, mark
     requires { ⌜ (length ≤ 1073741824) × (parents ≤ 16) × (specific ≤ 1073741824) × (contents ≤ 1073741824) × (mark ≤ 1073741824) ⌝ }
     ensures { λ r. ⌜ r ≡ length + (602 + 344 * parents + specific) + contents + (254 + 2 * mark) ⌝ }
 {
-    length + (602 + 344 * parents + specific) + contents + (254 + 2 * mark)
+    length
+        + (CHUNK_HEADER + places::DEPENDENCY_BYTES * parents + specific)
+        + contents
+        + (places::INTEGRITY_BYTES + 2 * mark)
 }
 
 // All tests but 11, which what is lent has passed.
@@ -170,7 +170,7 @@ pub fn refusal(
     let generic = d.generic;
     let file = &buffer[..length];
     if !is_clean(file, survey.number, survey.stop) {
-        return 12;
+        return refusals::NOT_CLEAN;
     }
     let own = description_refusal(d);
     if own != 0 {
@@ -182,12 +182,12 @@ pub fn refusal(
         return there;
     }
     if open_wrong(file, h, generic, contents, open) {
-        return 16;
+        return refusals::OPEN;
     }
     let n = h.mark;
     let end = new_end(length, parents.len(), specific.len(), contents.len(), n);
     if buffer.len() < end {
-        return 18;
+        return refusals::NO_ROOM;
     }
     0
 }

@@ -1,6 +1,6 @@
 -- What is in form, and the header that is written of it. "6 field out of form or range; also begin .. (there too a wrong
 -- listed word, an over-long text or a mark over 999)": where a text is over-long, its padded field is too.
---     title-size title-values-size integrity-values-size   the header's lines in the table of lines
+--     title-size title-values-size   the header's lines in the table of lines
 --     mark-fits recorder-fits writer-fits unformed   what is in form is not over-long
 --     header-length   319 and twice the mark
 --     Widths formed-is header-is   the code's judgement, and the code's header
@@ -8,28 +8,29 @@
 use Prim.Native.Nat.{ℕ, _+_, _-_, _*_, _≤_}
 use mathlib.Core.Bool.{Bool, true, false, not, _&&_}
 use mathlib.Core.Path.{_≡_, refl, sym, ap, _∙_}
-use mathlib.Core.List.{List, [], _∷_, _++_, append-assoc, append-nil}
+use mathlib.Core.List.{List, [], _∷_, _++_}
 use native.Mathlib.Omega.{arith}
 use lib.Dec.{ltb}
 use lib.ListN.{length, length-append}
-use lib.Seq.{take-at, drop-at}
 use borrow.Author.Tests.{le-ltb, ltb-false, not-true}
 use Rattle.metafile.specs.Bytes.{part}
 use Rattle.metafile.specs.Fields.{digitsOf, padded}
-use Rattle.metafile.specs.Lines.{text, Field, fixed, value, lf, Line, linesOf, width, fieldWidth, size, put, left, firstOf, othersOf, write, formed, table, chunkSerial, recordingDate, recordingAgent, writingDate, writingAgent}
+use Rattle.metafile.specs.Lines.{text, Field, fixed, value, lf, linesOf, width, fieldWidth, size, put, left, firstOf, othersOf, write, formed, table, chunkSerial, recordingDate, recordingAgent, writingDate, writingAgent}
 use Rattle.metafile.specs.Closing.{Integrity, integrityLines, integrityValues, summedBytes, closingBytes}
 use Rattle.metafile.specs.Header.{title}
 use Rattle.metafile.specs.Answers.{placed}
 use Rattle.metafile.specs.Begin.{BeginGiven, titleValues, titleBytes, begunFile, beginFormed}
 use Rattle.laws.proofs.First.{test, and-both}
-use Rattle.laws.proofs.Lists.{length-padded}
 use Rattle.laws.proofs.Digits.{length-digitsOf}
 use Rattle.laws.proofs.Table.{formed-split, formed-width, write-size, lefts}
 use Rattle.laws.proofs.Distances.{lines, size-title}
 use Rattle.laws.proofs.Closed.{closed-length}
 use Rattle.table.specs.Codes.{linesFrom}
 use Rattle.lines.specs.Values.{chopped, valuesSize, closingFor}
-use Rattle.begin.proofs.Values.{joined, part-whole, placed-start, placed-behind}
+use Rattle.writer.proofs.Placed.{part-whole, part-placed}
+use Rattle.writer.proofs.Joined.{integrity-is, chopped-joined}
+use Rattle.writer.proofs.Described.{closing-lines, integrity-fills}
+use Rattle.begin.proofs.Values.{placed-behind}
 
 -- ---- the lines of the header, and their values one behind the other
 
@@ -44,21 +45,9 @@ pub title-values-size : valuesSize (linesFrom 22 2) ≡ 6
 unfolding linesFrom table valuesSize lines
 title-values-size = refl
 
-integrity-lines : linesFrom 16 5 ≡ integrityLines
-unfolding linesFrom table integrityLines
-integrity-lines = refl
-
-pub integrity-values-size : valuesSize (linesFrom 16 5) ≡ 118
-unfolding linesFrom table valuesSize lines
-integrity-values-size = refl
-
 and-true : (a c : Bool) → (a && c) ≡ ((a && true) && c)
 and-true true c = refl
 and-true false c = refl
-
-chopped-next : (l : Line) (ls : List Line) (v r : List ℕ) → length v ≡ width (l .kind) → chopped (l ∷ ls) (v ++ r) ≡ v ∷ chopped ls r
-unfolding chopped
-chopped-next l ls v r e = rw (take-at v r (width (l .kind)) e, drop-at v r (width (l .kind)) e)
 
 -- the widths of what is given as arrays
 pub record Widths (b : BeginGiven) : Type 0 where
@@ -122,7 +111,7 @@ abbrev titleGiven : BeginGiven → List ℕ
 titleGiven b = b .strategy ++ digitsOf 3 (length (b .mark))
 
 abbrev valuesGiven : Integrity → List ℕ
-valuesGiven i = joined (i .serial) (i .recordingDate) (i .recordingAgent) (i .writingDate) (i .writingAgent)
+valuesGiven i = i .serial ++ i .recordingDate ++ padded 32 (i .recordingAgent) ++ i .writingDate ++ padded 32 (i .writingAgent)
 
 module _ (b : BeginGiven) (w : Widths b) where
   chopped-title : chopped (linesFrom 22 2) (titleGiven b) ≡ titleValues b
@@ -137,29 +126,17 @@ module _ (b : BeginGiven) (w : Widths b) where
   title-is = rw (title-lines, chopped-title)
 
   module _ (recorder : length (b .integrity .recordingAgent) ≤ 32) (writer : length (b .integrity .writingAgent) ≤ 32) where
-    chopped-integrity : chopped integrityLines (valuesGiven (b .integrity)) ≡ integrityValues (b .integrity)
-    unfolding lines integrityValues
-    chopped-integrity =
-        let i : Integrity = b .integrity in
-        let p : List ℕ = padded 32 (i .recordingAgent) in
-        let q : List ℕ = padded 32 (i .writingAgent) in
-        let nested : valuesGiven i ≡ i .serial ++ (i .recordingDate ++ (p ++ (i .writingDate ++ (q ++ [])))) = simp (append-assoc, append-nil) in
-        rw (
-          nested,
-          chopped-next chunkSerial (recordingDate ∷ recordingAgent ∷ writingDate ∷ writingAgent ∷ []) (i .serial) (i .recordingDate ++ (p ++ (i .writingDate ++ (q ++ [])))) (w .serial),
-          chopped-next recordingDate (recordingAgent ∷ writingDate ∷ writingAgent ∷ []) (i .recordingDate) (p ++ (i .writingDate ++ (q ++ []))) (w .recorded),
-          chopped-next recordingAgent (writingDate ∷ writingAgent ∷ []) p (i .writingDate ++ (q ++ [])) (length-padded 32 (i .recordingAgent) recorder),
-          chopped-next writingDate (writingAgent ∷ []) (i .writingDate) (q ++ []) (w .written),
-          chopped-next writingAgent [] q [] (length-padded 32 (i .writingAgent) writer),
-        )
-        (unfold chopped in refl)
+    chopped-integrity : (v : List ℕ) → v ≡ valuesGiven (b .integrity) → chopped integrityLines v ≡ integrityValues (b .integrity)
+    chopped-integrity v e =
+        rw (integrity-is (b .integrity) v e)
+        (chopped-joined integrityLines (integrityValues (b .integrity)) (integrity-fills (b .integrity) (w .serial) (w .recorded) recorder (w .written) writer))
 
     pub formed-is : (r₁ r₂ : Bool) (t v : List ℕ) → length (b .mark) ≤ 999 → t ≡ titleGiven b → v ≡ valuesGiven (b .integrity)
         → r₁ ≡ formed (linesOf (linesFrom 22 2)) (chopped (linesFrom 22 2) t) → r₂ ≡ formed (linesOf (linesFrom 16 5)) (chopped (linesFrom 16 5) v)
         → (r₁ && r₂) ≡ beginFormed b
     unfolding beginFormed
     formed-is r₁ r₂ t v h et ev e₁ e₂ =
-        rw (e₁, e₂, et, ev, title-lines, chopped-title, integrity-lines, chopped-integrity, le-ltb 999 (length (b .mark)) h)
+        rw (e₁, e₂, et, title-lines, chopped-title, closing-lines, chopped-integrity v ev, le-ltb 999 (length (b .mark)) h)
         (and-true (formed title (titleValues b)) (formed (linesOf integrityLines) (integrityValues (b .integrity))))
 
 module _ (b : BeginGiven) (w : Widths b) (e : beginFormed b ≡ true) where
@@ -172,7 +149,7 @@ module _ (b : BeginGiven) (w : Widths b) (e : beginFormed b ≡ true) where
   header-is t v buffer b₁ b₂ at et ev ea e₁ e₂ =
       let long : at ≡ length (titleBytes b) = omega (arith, ea, title-size, length-title b e) in
       let front : b₁ ≡ placed 0 (titleBytes b) buffer = e₁ ∙ rw (et, title-is b w) in
-      let values : chopped integrityLines v ≡ integrityValues (b .integrity) = rw ev (chopped-integrity b w (recorder-fits b e) (writer-fits b e)) in
+      let values : chopped integrityLines v ≡ integrityValues (b .integrity) = chopped-integrity b w (recorder-fits b e) (writer-fits b e) v ev in
       let whole : at - 0 ≡ length (titleBytes b) = omega arith in
-      let summed-over : part 0 (at - 0) b₁ ≡ titleBytes b = rw (whole, front) (placed-start (titleBytes b) buffer) in
+      let summed-over : part 0 (at - 0) b₁ ≡ titleBytes b = rw (whole, front) (part-placed 0 (titleBytes b) buffer (omega arith)) in
       e₂ ∙ rw (summed-over, values, front, long) (placed-behind (titleBytes b) (closingBytes (b .mark) (b .integrity) (titleBytes b)) buffer)

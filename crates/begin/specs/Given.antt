@@ -1,7 +1,6 @@
--- What begin is given, from its parameters, and its outcome. Assumes nothing.
+-- What begin is given, from its parameters. Assumes nothing.
 use Prim.Native.Nat.{ℕ}
 use mathlib.Core.List.{List}
-use Rattle.metafile.specs.Answers.{Answer, Outcome}
 use Rattle.metafile.specs.Begin.{BeginGiven}
 
 -- strategy, mark, serial, recording date and agent, writing date and agent
@@ -18,6 +17,3 @@ givenOf strategy mark serial recorded recorder written writer =
         writingAgent = writer;
       };
     }
-
-abbrev pub outcome : Answer → List ℕ → Outcome
-outcome answer buffer = record { answer = answer; buffer = buffer }

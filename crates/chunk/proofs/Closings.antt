@@ -1,47 +1,60 @@
 -- The closing: "mark, integrity data, mark", three stages from the place `at` on.
---     closing-split   the run over it, by stages
---     mark-fits integrity-fits closing-fits   what has no fault ends inside
+--     mark-.. integrity-.. closing-last   each of the three, from where the one before ends
+--     closing-fits   a closing that has no fault ends inside
+--     sum-is         the sum's digits, and the sum of the bytes before them
 -- Assumes nothing.
 use Prim.Native.Nat.{ℕ, _+_, _≤_}
-use mathlib.Core.Path.{_≡_, refl, ap}
+use mathlib.Core.Path.{_≡_, refl, _∙_}
 use mathlib.Core.List.{List, [], _∷_, _++_}
 use native.Mathlib.Omega.{arith}
-use lib.ListN.{length, drop, length-drop}
-use lib.Seq.{drop-drop}
-use Rattle.metafile.specs.Bytes.{_⊳_}
+use lib.Dec.{eqb}
+use lib.ListN.{length, take, drop, length-drop}
+use Rattle.metafile.specs.Bytes.{part, _⊳_, sum}
+use Rattle.metafile.specs.Fields.{countValue}
 use Rattle.metafile.specs.Lines.{fixed, linesOf, fieldWidth, fault, size, run, table}
-use Rattle.metafile.specs.Closing.{summed, unsummed, closing}
+use Rattle.metafile.specs.Closing.{summed, unsummed, closing, sumPlace, sumGood}
 use Rattle.table.specs.Codes.{linesFrom}
-use Rattle.laws.proofs.Table.{fault-enough, run-split}
 use Rattle.laws.proofs.Distances.{lines, size-closing}
-use Rattle.multi.proofs.Places.{fits}
-use Rattle.chunk.proofs.Stages.{run-one}
+use Rattle.laws.proofs.Stages.{fits}
+use Rattle.lines.specs.declared.reader.Taken.{Taken}
+use Rattle.lines.specs.Parts.{Takes}
+use Rattle.lines.proofs.Runs.{takes-stop, takes-fits, takes-go}
 
 size-integrity : size (linesOf (linesFrom 16 6)) ≡ 254
 unfolding lines linesFrom table
 size-integrity = refl
 
-is-closing : (m : List ℕ) → closing m ≡ fixed m ∷ (linesOf (linesFrom 16 6) ++ fixed m ∷ [])
+is-closing : (m : List ℕ) → closing m ≡ (fixed m ∷ []) ++ (linesOf (linesFrom 16 6) ++ fixed m ∷ [])
 unfolding closing summed unsummed lines linesFrom table
 is-closing m = refl
 
-module _ (m s : List ℕ) (at : ℕ) where
-  pub closing-split : run (closing m) (drop at s)
-      ≡ fault (fixed m) (drop at s) ⊳ (run (linesOf (linesFrom 16 6)) (drop (at + length m) s) ⊳ fault (fixed m) (drop (at + length m + 254) s))
-  unfolding run fieldWidth
-  closing-split =
-      rw (is-closing m, drop-drop (length m) at s, run-split (linesOf (linesFrom 16 6)) (fixed m ∷ []) (drop (at + length m) s), size-integrity, drop-drop 254 (at + length m) s)
-      (ap (λ (x : ℕ). fault (fixed m) (drop at s) ⊳ (run (linesOf (linesFrom 16 6)) (drop (at + length m) s) ⊳ x)) (run-one (fixed m) (drop (at + length m + 254) s)))
+-- the integrity data, as the field reader would answer them
+integrity-taken : (s : List ℕ) (at f : ℕ) → f ≡ run (linesOf (linesFrom 16 6)) (drop at s) → Takes (linesOf (linesFrom 16 6)) at s (record { fault = f; at = at + 254 })
+integrity-taken s at f e = record { first = e; behind = omega (arith, size-integrity) }
 
-  -- each stage that has no fault ends inside
-  pub mark-fits : fault (fixed m) (drop at s) ≡ 0 → at ≤ length s → at + length m ≤ length s
-  unfolding fieldWidth
-  mark-fits z h =
-      let k = simp length-drop at (fault-enough (fixed m) (drop at s) z) in
-      omega arith
+module _ (m s : List ℕ) (at : ℕ) (first : Taken) (e : Takes (fixed m ∷ []) at s first) where
+  pub mark-stop : (first .fault ≡ 0 → ⊥) → first .fault ≡ run (closing m) (drop at s)
+  mark-stop n = rw (is-closing m) (takes-stop (fixed m ∷ []) (linesOf (linesFrom 16 6) ++ fixed m ∷ []) s at first e n)
 
-  pub closing-fits : run (closing m) (drop at s) ≡ 0 → at ≤ length s → at + length m + 254 + length m ≤ length s
-  closing-fits z h = omega (arith, fits (closing m) (length m + 254 + length m) at s (size-closing m) h z)
+  pub mark-room : at ≤ length s → first .fault ≡ 0 → first .at ≤ length s
+  mark-room = takes-fits (fixed m ∷ []) [] s at first e
 
-pub integrity-fits : (s : List ℕ) (at : ℕ) → run (linesOf (linesFrom 16 6)) (drop at s) ≡ 0 → at ≤ length s → at + 254 ≤ length s
-integrity-fits s at z h = fits (linesOf (linesFrom 16 6)) 254 at s size-integrity h z
+  module _ (z : first .fault ≡ 0) (f : ℕ) (g : f ≡ run (linesOf (linesFrom 16 6)) (drop (first .at) s)) where
+    behind : run (linesOf (linesFrom 16 6) ++ fixed m ∷ []) (drop (first .at) s) ≡ run (closing m) (drop at s)
+    behind = rw (is-closing m) (takes-go (fixed m ∷ []) (linesOf (linesFrom 16 6) ++ fixed m ∷ []) s at first e z)
+
+    pub integrity-stop : (f ≡ 0 → ⊥) → f ≡ run (closing m) (drop at s)
+    integrity-stop n = takes-stop (linesOf (linesFrom 16 6)) (fixed m ∷ []) s (first .at) _ (integrity-taken s (first .at) f g) n ∙ behind
+
+    pub integrity-room : at ≤ length s → f ≡ 0 → first .at + 254 ≤ length s
+    integrity-room h n = takes-fits (linesOf (linesFrom 16 6)) [] s (first .at) _ (integrity-taken s (first .at) f g) (mark-room h z) n
+
+    pub closing-last : (q : ℕ) → f ≡ 0 → q ≡ run (fixed m ∷ []) (drop (first .at + 254) s) → q ≡ run (closing m) (drop at s)
+    closing-last q n l = l ∙ takes-go (linesOf (linesFrom 16 6)) (fixed m ∷ []) s (first .at) _ (integrity-taken s (first .at) f g) n ∙ behind
+
+pub closing-fits : (m s : List ℕ) (at : ℕ) → run (closing m) (drop at s) ≡ 0 → at ≤ length s → at + length m + 254 + length m ≤ length s
+closing-fits m s at z h = omega (arith, fits (closing m) (length m + 254 + length m) at s (size-closing m) h z)
+
+pub sum-is : (m s : List ℕ) (at v n : ℕ) → v ≡ countValue (part (at + length m + 250) 3 s) → n ≡ sum (take (at + length m + 250) s) → eqb v n ≡ sumGood at m s
+unfolding sumGood sumPlace
+sum-is m s at v n ev en = rw (ev, en)

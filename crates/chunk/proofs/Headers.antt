@@ -20,13 +20,16 @@ use Rattle.metafile.specs.Fields.{isCount, countValue, padded, isOffset}
 use Rattle.metafile.specs.Lines.{count, offset, free, fixed, value, Line, lf, i12, i4, opened, linesOf, countFault, offsetFault, kindFault, fault, run, table, chunkHeaderLength, subFormatID, genericType, timeSynchType, timeStandard, timeOffset, dependencyCount}
 use Rattle.metafile.specs.Chunk.{headLines, head, headerLength, offsetBytes, dependencyBytes, dependencies, multiName, isMulti, dependencyLengthFor, headerLengthFor, headerBytesFor, specific, lengthsFault, dependencyFields, specificPlace, headerBytes, chunkHeaderFault}
 use Rattle.table.specs.Codes.{lineNo, linesFrom}
+use Rattle.lines.specs.declared.reader.Taken.{Taken}
+use Rattle.lines.specs.Parts.{fieldNo, Takes}
+use Rattle.lines.proofs.Runs.{takes-stop, takes-fits, takes-go, takes-both, takes-first}
 use Rattle.laws.proofs.First.{test, and-both, isZero-zero, ⊳-left, ⊳-right, require-true}
 use Rattle.laws.proofs.Loops.{part-drop}
 use Rattle.laws.proofs.Table.{field-own, run-enough, run-split, run-at}
 use Rattle.laws.proofs.Distances.{lines, size-head}
 use Rattle.chunk_laws.proofs.Chunk.{size-free, size-behind-count}
-use Rattle.multi.proofs.Places.{stop, go, fits}
-use Rattle.chunk.proofs.Stages.{run-one, free-short, free-long}
+use Rattle.laws.proofs.Stages.{stop, go, fits}
+use Rattle.chunk.proofs.Stages.{free-short, free-long}
 
 -- ---- "If, and only if, SubFormat_ID is ADS\SYS\MultiChunk"
 
@@ -151,39 +154,50 @@ header-bytes-is s e =
 
 -- ---- the dependencies
 
-dependency-step : (left : ℕ) (t : List ℕ) → 0 < left
-    → run (dependencyFields left) t ≡ run (linesOf (linesFrom 9 2)) t ⊳ run (dependencyFields (left - 1)) (drop 344 t)
+dependency-step : (left : ℕ) → 0 < left → dependencyFields left ≡ linesOf (linesFrom 9 2) ++ dependencyFields (left - 1)
 unfolding dependencyFields lines linesFrom table
-dependency-step zero t h = absurd (omega arith)
-dependency-step (suc k) t h =
+dependency-step zero h = absurd (omega arith)
+dependency-step (suc k) h =
     let e : suc k - 1 ≡ k = omega arith in
-    rw e (run-split (linesOf (linesFrom 9 2)) (dependencyFields k) t)
+    rw e
 
-module _ (s : List ℕ) (n : ℕ) where
-  pub dependencies-begun : (f : ℕ) → f ≡ fault lf (drop 567 s) → f ≡ 0 → run (lf ∷ dependencyFields n) (drop 567 s) ≡ run (dependencyFields n) (drop 568 s)
-  unfolding run lines
-  dependencies-begun f e z = sym (go _ _ _ (sym e ∙ z) (ap (run (dependencyFields n)) (sym (drop-drop 1 567 s))))
+-- the LF after the dependency count, which the field reader took
+module _ (s : List ℕ) (n : ℕ) (end : Taken) (e : Takes (fieldNo 8 2 ∷ []) 567 s end) where
+  pub dependencies-lf : (end .fault ≡ 0 → ⊥) → end .fault ≡ run (lf ∷ dependencyFields n) (drop 567 s)
+  unfolding fieldNo lines
+  dependencies-lf k = takes-stop (fieldNo 8 2 ∷ []) (dependencyFields n) s 567 end e k
 
-  pub dependencies-lf : (f : ℕ) → f ≡ fault lf (drop 567 s) → (f ≡ 0 → ⊥) → f ≡ run (lf ∷ dependencyFields n) (drop 567 s)
-  unfolding run
-  dependencies-lf f e k = stop _ _ f e k
+  pub dependencies-begun : end .fault ≡ 0 → run (lf ∷ dependencyFields n) (drop 567 s) ≡ run (dependencyFields n) (drop (end .at) s)
+  unfolding fieldNo lines
+  dependencies-begun z = sym (takes-go (fieldNo 8 2 ∷ []) (dependencyFields n) s 567 end e z)
 
-  pub dependencies-first : (f : ℕ) → f ≡ fault lf (drop 567 s) → f ≡ 0 → 567 ≤ length s → 568 ≤ length s
-  unfolding lines
-  dependencies-first f e z h = fits (lf ∷ []) 1 567 s refl h (run-one lf (drop 567 s) ∙ sym e ∙ z)
+  pub dependencies-first : end .fault ≡ 0 → 567 ≤ length s → end .at ≤ length s
+  dependencies-first z h = takes-fits (fieldNo 8 2 ∷ []) [] s 567 end e h z
 
-module _ (s : List ℕ) (all at left f : ℕ) (e : f ≡ run (linesOf (linesFrom 9 2)) (drop at s)) where
-  pub dependencies-fit : f ≡ 0 → at ≤ length s → at + 344 ≤ length s
-  unfolding lines linesFrom table
-  dependencies-fit z h = fits (linesOf (linesFrom 9 2)) 344 at s refl h (sym e ∙ z)
+-- a dependency: its two lines
+dependency-is : linesOf (linesFrom 9 2) ≡ linesOf (lineNo 9 ∷ []) ++ linesOf (lineNo 10 ∷ [])
+unfolding lines linesFrom lineNo table
+dependency-is = refl
+
+module _ (s : List ℕ) (at : ℕ) (serial : Taken) (e : Takes (linesOf (lineNo 9 ∷ [])) at s serial) where
+  pub serial-stop : (serial .fault ≡ 0 → ⊥) → Takes (linesOf (linesFrom 9 2)) at s (record { fault = serial .fault; at = at + 344 })
+  unfolding lines linesFrom lineNo table
+  serial-stop k = takes-first (linesOf (lineNo 9 ∷ [])) (linesOf (lineNo 10 ∷ [])) s at serial e _ k refl refl
+
+  pub serial-go : (name : Taken) → serial .fault ≡ 0 → Takes (linesOf (lineNo 10 ∷ [])) (serial .at) s name → Takes (linesOf (linesFrom 9 2)) at s name
+  serial-go name z f = rw dependency-is (takes-both (linesOf (lineNo 9 ∷ [])) (linesOf (lineNo 10 ∷ [])) s at serial e name z f)
+
+module _ (s : List ℕ) (all at left : ℕ) (parent : Taken) (e : Takes (linesOf (linesFrom 9 2)) at s parent) where
+  pub dependencies-fit : at ≤ length s → parent .fault ≡ 0 → parent .at ≤ length s
+  dependencies-fit = takes-fits (linesOf (linesFrom 9 2)) [] s at parent e
 
   module _ (h : 0 < left) (total : all ≡ run (dependencyFields left) (drop at s)) where
-    pub dependencies-stop : (f ≡ 0 → ⊥) → f ≡ all
-    dependencies-stop k = stop _ _ f e k ∙ sym (total ∙ dependency-step left (drop at s) h)
+    pub dependencies-stop : (parent .fault ≡ 0 → ⊥) → parent .fault ≡ all
+    dependencies-stop k = takes-stop (linesOf (linesFrom 9 2)) (dependencyFields (left - 1)) s at parent e k ∙ sym (total ∙ ap (λ fs. run fs (drop at s)) (dependency-step left h))
 
-    pub dependencies-next : f ≡ 0 → all ≡ run (dependencyFields (left - 1)) (drop (at + 344) s)
+    pub dependencies-next : parent .fault ≡ 0 → all ≡ run (dependencyFields (left - 1)) (drop (parent .at) s)
     dependencies-next z =
-        total ∙ dependency-step left (drop at s) h ∙ sym (go _ _ _ (sym e ∙ z) refl) ∙ ap (run (dependencyFields (left - 1))) (drop-drop 344 at s)
+        total ∙ ap (λ fs. run fs (drop at s)) (dependency-step left h) ∙ sym (takes-go (linesOf (linesFrom 9 2)) (dependencyFields (left - 1)) s at parent e z)
 
 pub dependencies-end : (s : List ℕ) (all at left : ℕ) → left ≡ 0 → all ≡ run (dependencyFields left) (drop at s) → 0 ≡ all
 unfolding dependencyFields run

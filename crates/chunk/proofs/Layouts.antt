@@ -4,7 +4,7 @@
 --     layout-whole     there is no fault
 --     Placed, placed   a whole chunk: each number of its layout, inside the file
 --     parts-..         the parts of a whole chunk, as they are read without judging it
---     serial-is good-is offset-.. row-is   what a row has beside them
+--     serial-is offset-.. row-is   what a row has beside them
 -- Assumes nothing.
 use Prim.Native.Nat.{ℕ, zero, suc, _+_, _-_, _≤_}
 use mathlib.Core.Bool.{Bool, true, false}
@@ -28,7 +28,7 @@ use Rattle.multi.specs.declared.Part.{Part}
 use Rattle.chunk.specs.Layout.{faulty, partsOf, layoutOf, WholeLayout, contentsPart}
 use Rattle.multi.specs.Part.{partOf}
 use Rattle.lines.specs.Words.{wordNo}
-use Rattle.multi.proofs.Places.{stop, go}
+use Rattle.laws.proofs.Stages.{stop, go}
 use Rattle.chunk.proofs.Stages.{part-number, part-bytes}
 use Rattle.chunk.proofs.Headers.{header-whole}
 
@@ -206,11 +206,6 @@ pub serial-is : (m s : List ℕ) (c : ℕ) (v : List ℕ) → c ≡ closingPlace
     → v ≡ take 38 (take (length s - (c + length m + 20)) (drop (c + length m + 20) s)) → v ≡ serialOf m s
 unfolding serialOf closingSerial
 serial-is m s c v ec e = rw (part-drop, ec) at e
-
-pub good-is : (m s : List ℕ) (c v n : ℕ) → c ≡ closingPlace m s → v ≡ countValue (part (c + length m + 250) 3 s) → n ≡ sum (take (c + length m + 250) s)
-    → eqb v n ≡ sumGood (closingPlace m s) m s
-unfolding sumGood sumPlace
-good-is m s c v n ec ev en = rw (rw ec at ev, rw ec at en)
 
 -- ---- "offset (0 under SPE or NUL standard)"
 

@@ -7,18 +7,18 @@
 -- Assumes nothing.
 use Prim.Native.Nat.{ℕ, zero, suc, _+_, _-_, _≤_, _<_}
 use mathlib.Core.Bool.{Bool, true, false, _&&_}
-use mathlib.Core.Path.{_≡_, refl, sym, _∙_}
+use mathlib.Core.Path.{_≡_, refl, sym, ap, _∙_}
 use mathlib.Core.List.{List, [], _∷_, _++_, append-nil}
 use native.Mathlib.Omega.{arith}
 use lib.Dec.{eqb}
 use lib.ListN.{length, take, drop}
 use lib.Seq.{drop-drop}
-use borrow.Author.Tests.{ne-eqb}
 use Rattle.metafile.specs.Bytes.{_⊳_, require, isZero, find}
-use Rattle.metafile.specs.Lines.{free, Field, value, lf, opened, fault, run, table, contentLength}
+use Rattle.metafile.specs.Lines.{free, Field, value, lf, opened, size, run, table, contentLength}
 use Rattle.metafile.specs.Chunk.{contentCount, dataBytes, plainBytes, plainFault, contentsFault, contentsFrom, contentsLong}
 use Rattle.table.specs.Codes.{lineNo}
-use Rattle.laws.proofs.First.{⊳-left, ⊳-right, ⊳-assoc}
+use Rattle.lines.specs.Parts.{fieldNo}
+use Rattle.laws.proofs.First.{⊳-left, ⊳-right, ⊳-assoc, isZero-eqb}
 use Rattle.laws.proofs.Loops.{part-drop}
 use Rattle.laws.proofs.Table.{run-enough, run-split}
 use Rattle.laws.proofs.Distances.{lines}
@@ -26,19 +26,14 @@ use Rattle.chunk_laws.proofs.Contents.{size-opened}
 use Rattle.multi.specs.declared.Part.{Part}
 use Rattle.chunk.specs.Layout.{lengthLineFault, plainPart, contentsPart}
 use Rattle.multi.specs.Part.{multiPart}
-use Rattle.multi.proofs.Places.{stop, go, fits}
-use Rattle.chunk.proofs.Stages.{run-one, free-short, free-long, part-fault, part-whole, part-number, part-bytes}
+use Rattle.laws.proofs.Stages.{stop, go, fits}
+use Rattle.chunk.proofs.Stages.{free-short, free-long, part-fault, part-whole, part-number, part-bytes}
 
 -- ---- the content length line
 
 is-line : opened (lineNo 11) ≡ opened contentLength
 unfolding lineNo table
 is-line = refl
-
-eqb-zero : (k : ℕ) → eqb k 0 ≡ isZero k
-unfolding isZero
-eqb-zero zero = refl
-eqb-zero (suc k) = ne-eqb (suc k) 0 (λ q. absurd (omega arith))
 
 pub line-bad : (llc : Bool) (r : List ℕ) (f : ℕ) → f ≡ run (opened (lineNo 11)) r → (f ≡ 0 → ⊥) → f ≡ lengthLineFault llc r
 unfolding lengthLineFault
@@ -51,15 +46,17 @@ module _ (llc : Bool) (r : List ℕ) (z : run (opened (lineNo 11)) r ≡ 0) wher
 
   module _ (k : ℕ) (e : k ≡ contentCount r) where
     refused : (llc && eqb k 0) ≡ (llc && isZero (contentCount r))
-    refused = rw (← e, eqb-zero k)
+    refused = rw (← e, isZero-eqb k)
 
     pub line-none : (llc && eqb k 0) ≡ true → 7 ≡ lengthLineFault llc r
     unfolding lengthLineFault require _⊳_
     line-none q = go _ _ _ (rw is-line at z) (rw (sym refused ∙ q))
 
-    pub line-end : (llc && eqb k 0) ≡ false → (g : ℕ) → g ≡ fault lf (drop 33 r) → g ≡ lengthLineFault llc r
-    unfolding lengthLineFault require _⊳_
-    line-end q g h = go _ _ _ (rw is-line at z) (rw (sym refused ∙ q) (h ∙ sym (run-one lf (drop 33 r))))
+    pub line-end : (llc && eqb k 0) ≡ false → (at g : ℕ) → at ≡ size (opened (lineNo 11)) → g ≡ run (fieldNo 11 2 ∷ []) (drop at r) → g ≡ lengthLineFault llc r
+    unfolding lengthLineFault require _⊳_ fieldNo lf opened
+    line-end q at g p e =
+        let place : at ≡ 33 = p ∙ ap size is-line ∙ size-opened in
+        go _ _ _ (rw is-line at z) (rw (sym refused ∙ q) (rw place at e))
 
 -- a line without a fault ends inside
 pub line-whole : (llc : Bool) (r : List ℕ) → lengthLineFault llc r ≡ 0 → 34 ≤ length r

@@ -1,6 +1,4 @@
--- Stages of one field, and answers that hold a fault or a number of bytes. stop, go and fits, by which a function goes
--- through stages in a row, are those of the crate multi (proofs/Places).
---     run-one                one field
+-- A run of free bytes, and answers that hold a fault or a number of bytes.
 --     free-short free-long   a run of free bytes that ends behind the file's end, or inside
 --     part-..                the two answers on contents, and what they say
 -- Assumes nothing.
@@ -10,15 +8,11 @@ use mathlib.Core.List.{List, [], _∷_}
 use native.Mathlib.Omega.{arith}
 use lib.ListN.{length, drop}
 use Rattle.metafile.specs.Bytes.{choose}
-use Rattle.metafile.specs.Lines.{free, Field, value, fault, run}
-use Rattle.laws.proofs.First.{⊳-none, choose-go, choose-stop}
-use Rattle.multi.proofs.Places.{free-short as field-free-short, free-long as field-free-long}
+use Rattle.metafile.specs.Lines.{free, value, run}
+use Rattle.laws.proofs.First.{choose-go, choose-stop}
+use Rattle.laws.proofs.Stages.{run-one, free-short as field-free-short, free-long as field-free-long}
 use Rattle.multi.specs.declared.Part.{Part}
 use Rattle.multi.specs.Part.{partOf}
-
-pub run-one : (f : Field) (s : List ℕ) → run (f ∷ []) s ≡ fault f s
-unfolding run
-run-one f s = ⊳-none (fault f s)
 
 -- ---- free bytes
 

@@ -4,20 +4,25 @@ ghost use mathlib.Core.Path.{_≡_};
 ghost use Rattle.metafile.specs.Chunk.{dataBytes, contentsFault, contentsFrom, contentsLong};
 ghost use Rattle.chunk.specs.Layout.{lengthLineFault, plainPart, contentsPart};
 use crate::counts::count_at;
+use lines::reader::END;
+use metafile::refusals;
 use multi::Part;
+use table::numbers;
+use table::places;
 
 // The content length line. Under LLC a count of 0 is refused, before the LF.
 fn length_line_fault(r: &[u8], llc: bool) -> u8
     ensures { λ n. ⌜ n ≡ lengthLineFault llc (now (r .entry)) ⌝ }
 {
-    let fault = lines::content_length_fault(r);
-    if fault != 0 {
-        return fault;
+    let line = lines::read_opened(r, 0, numbers::CONTENT_LENGTH);
+    if line.fault != 0 {
+        return line.fault;
     }
-    if llc & (count_at(r, 21, 12) == 0) {
-        return 7;
+    if llc & (count_at(r, places::CONTENT_LENGTH, places::LENGTH) == 0) {
+        return refusals::LENGTH;
     }
-    lines::lf_fault(r, 33)
+    let end = lines::read_field(r, line.at, numbers::CONTENT_LENGTH, END);
+    end.fault
 }
 
 // The bytes of the data: up to the first mark where the count is 0, else one less than the count.
@@ -41,11 +46,15 @@ fn plain_part(r: &[u8], llc: bool, mark: &[u8]) -> Part
             bytes: 0,
         };
     }
-    let rest = &r[34..];
-    let bytes = data_bytes(rest, mark, count_at(r, 21, 12));
+    let rest = &r[places::CONTENT_LENGTH_BYTES..];
+    let bytes = data_bytes(
+        rest,
+        mark,
+        count_at(r, places::CONTENT_LENGTH, places::LENGTH),
+    );
     if rest.len() < bytes {
         return Part {
-            number: 4,
+            number: refusals::SHORT,
             bytes: 0,
         };
     }
@@ -70,12 +79,20 @@ pub fn whole_bytes(r: &[u8], multichunk: bool, llc: bool, mark: &[u8]) -> usize
     if multichunk {
         return multi::multi_part(r).bytes;
     }
-    data_bytes(&r[34..], mark, count_at(r, 21, 12))
+    data_bytes(
+        &r[places::CONTENT_LENGTH_BYTES..],
+        mark,
+        count_at(r, places::CONTENT_LENGTH, places::LENGTH),
+    )
 }
 
 // How far behind the header the contents begin: after the content length line, or at a MultiChunk's first line.
 pub fn contents_from(multichunk: bool) -> usize
     ensures { λ n. ⌜ n ≡ contentsFrom multichunk ⌝ }
 {
-    if multichunk { 0 } else { 34 }
+    if multichunk {
+        0
+    } else {
+        places::CONTENT_LENGTH_BYTES
+    }
 }

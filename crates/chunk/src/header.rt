@@ -5,9 +5,16 @@ ghost use mathlib.Core.List.{_∷_};
 ghost use Prim.Native.Nat.{_≤_};
 ghost use lib.ListN.{length, drop};
 ghost use Rattle.metafile.specs.Bytes.{same};
-ghost use Rattle.metafile.specs.Lines.{lf, run};
+ghost use Rattle.metafile.specs.Lines.{lf, linesOf, run};
+ghost use Rattle.table.specs.Codes.{linesFrom};
+ghost use Rattle.lines.specs.Parts.{Takes};
 ghost use Rattle.metafile.specs.Chunk.{head, dependencies, multiName, isMulti, lengthsFault, dependencyFields, headerBytes, chunkHeaderFault};
 use crate::counts::count_at;
+use lines::Taken;
+use lines::reader::END;
+use metafile::refusals;
+use table::numbers;
+use table::places;
 
 // ---- what the header says
 
@@ -27,7 +34,7 @@ pub fn is_multi(s: &[u8]) -> bool
     requires { ⌜ 567 ≤ length (now s) ⌝ }
     ensures { λ r. ⌜ r ≡ isMulti (now (s .entry)) ⌝ }
 {
-    is_multi_name(&s[46..302])
+    is_multi_name(&s[places::SUB_FORMAT..places::SUB_FORMAT_END])
 }
 
 // The dependency count.
@@ -35,7 +42,7 @@ pub fn dependencies(s: &[u8]) -> usize
     requires { ⌜ 567 ≤ length (now s) ⌝ }
     ensures { λ r. ⌜ r ≡ dependencies (now (s .entry)) ⌝ }
 {
-    count_at(s, 563, 4)
+    count_at(s, places::DEPENDENCY_COUNT, places::COUNT)
 }
 
 // The header's bytes: its length counts from just after its last digit.
@@ -44,7 +51,7 @@ pub fn header_bytes(s: &[u8]) -> usize
     requires lengths { ⌜ lengthsFault (now s) ≡ 0 ⌝ }
     ensures { λ r. ⌜ r ≡ headerBytes (now (s .entry)) ⌝ }
 {
-    count_at(s, 20, 12) + 32
+    count_at(s, places::HEADER_LENGTH, places::LENGTH) + places::HEADER_LENGTH_END
 }
 
 // ---- the stages
@@ -66,21 +73,37 @@ fn lengths_fault(s: &[u8]) -> u8
     ensures { λ r. ⌜ r ≡ lengthsFault (now (s .entry)) ⌝ }
 {
     let n = dependencies(s);
-    if count_at(s, 527, 12) != 29 + 344 * n {
-        return 7;
+    let announced = count_at(s, places::DEPENDENCY_LENGTH, places::LENGTH);
+    if announced != places::LEAST_DEPENDENCY_LENGTH + places::DEPENDENCY_BYTES * n {
+        return refusals::LENGTH;
     }
-    let header = count_at(s, 20, 12);
-    let least = 536 + 344 * n;
+    let header = count_at(s, places::HEADER_LENGTH, places::LENGTH);
+    let least = places::LEAST_HEADER_LENGTH + places::DEPENDENCY_BYTES * n;
     if header < least {
-        return 7;
+        return refusals::LENGTH;
     }
     if header == least {
         return 0;
     }
     if is_multi(s) {
-        return 7;
+        return refusals::LENGTH;
     }
     0
+}
+
+// A dependency: its serial number and its sub-format.
+fn dependency(s: &[u8], at: usize) -> Taken
+    requires { ⌜ at ≤ length (now s) ⌝ }
+    ensures { λ r. ⌜ Takes (linesOf (linesFrom 9 2)) at (now (s .entry)) r ⌝ }
+{
+    let serial = lines::read_line(s, at, numbers::DEPENDENCY_SERIAL);
+    if serial.fault != 0 {
+        return Taken {
+            fault: serial.fault,
+            at: at + places::DEPENDENCY_BYTES,
+        };
+    }
+    lines::read_line(s, serial.at, numbers::DEPENDENCY_SUB_FORMAT)
 }
 
 // The LF after the dependency count, and n dependencies, two lines each.
@@ -88,18 +111,23 @@ fn dependencies_fault(s: &[u8], n: usize) -> u8
     requires { ⌜ 567 ≤ length (now s) ⌝ }
     ensures { λ r. ⌜ r ≡ run (lf ∷ dependencyFields n) (drop 567 (now (s .entry))) ⌝ }
 {
-    let fault = lines::lf_fault(s, 567);
-    if fault != 0 {
-        return fault;
+    let end = lines::read_field(
+        s,
+        places::DEPENDENCY_COUNT_END,
+        numbers::DEPENDENCY_COUNT,
+        END,
+    );
+    if end.fault != 0 {
+        return end.fault;
     }
-    let mut at: usize = 568;
+    let mut at = end.at;
     let mut left = n;
     while 0 < left {
-        let fault = lines::lines_fault(s, at, 9, 2);
-        if fault != 0 {
-            return fault;
+        let parent = dependency(s, at);
+        if parent.fault != 0 {
+            return parent.fault;
         }
-        at += 344;
+        at = parent.at;
         left -= 1;
     }
     0
@@ -122,7 +150,7 @@ pub fn header_fault(s: &[u8]) -> u8
         return broken;
     }
     if s.len() < header_bytes(s) {
-        return 4;
+        return refusals::SHORT;
     }
     0
 }

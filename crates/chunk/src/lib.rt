@@ -5,8 +5,8 @@
 //     counts     counts at their places
 //     header     the header: lines, lengths, dependencies, specific data
 //     contents   the contents, those of a MultiChunk by the crate multi
-//     closing    mark, integrity data, mark
-//     rows       serial number, offset, sum and row of a whole chunk
+//     closing    mark, integrity data, mark; the test of their sum
+//     rows       serial number, offset and row of a whole chunk
 // It rests on lines for the runs over the table of lines, on fields for values, on search and on sums.
 mod closing;
 mod contents;
@@ -16,6 +16,7 @@ mod parts;
 mod rows;
 
 pub use closing::closing_fault;
+pub use closing::sum_good;
 pub use header::is_multi_name;
 pub use parts::Layout;
 pub use rows::chunk_serial;
@@ -23,6 +24,7 @@ pub use rows::row;
 ghost use mathlib.Core.Path.{_≡_};
 ghost use Rattle.metafile.specs.Chunk.{isMulti, headerBytes, chunkFault};
 ghost use Rattle.chunk.specs.Layout.{faulty, partsOf, layoutOf};
+use table::places;
 
 fn refused(number: u8) -> Layout
     ensures { λ r. ⌜ r ≡ faulty number ⌝ }
@@ -59,7 +61,7 @@ pub fn layout(s: &[u8], llc: bool, mark: &[u8]) -> Layout
     if broken != 0 {
         return refused(broken);
     }
-    let end = at + mark.len() + 254 + mark.len();
+    let end = at + mark.len() + places::INTEGRITY_BYTES + mark.len();
     Layout {
         number: 0,
         header,
@@ -79,7 +81,7 @@ fn known_parts(s: &[u8], header: usize, multichunk: bool, llc: bool, mark: &[u8]
 {
     let bytes = contents::whole_bytes(&s[header..], multichunk, llc, mark);
     let contents = header + contents::contents_from(multichunk);
-    let end = contents + bytes + mark.len() + 254 + mark.len();
+    let end = contents + bytes + mark.len() + places::INTEGRITY_BYTES + mark.len();
     Layout {
         number: 0,
         header,
@@ -92,7 +94,7 @@ fn known_parts(s: &[u8], header: usize, multichunk: bool, llc: bool, mark: &[u8]
 }
 
 // A header without dependencies and specific data, which most chunks have.
-const LEAST: usize = 568;
+const LEAST: usize = places::DEPENDENCIES;
 
 // Where the parts of a chunk known to be whole stand: no label and no text is judged again. Behind the least header the
 // content length stands at a constant place, so that it is fetched without waiting for the header's length.

@@ -1,5 +1,6 @@
 -- The mini-chunks of a MultiChunk ("Mini-chunks go on while the next 10 bytes are "MiniChunk=""): a walk down the
 -- bytes, of which it has k still to pass over before the next mini-chunk.
+--     size-mini-name size-mini-data mini-fits   the sizes of a mini-chunk's lines; one that passes fits
 --     minis-enough   a walk that passes ends inside
 --     minis-local    where 10 bytes follow its end, a label's length, more bytes behind change nothing
 -- Assumes nothing.
@@ -18,15 +19,15 @@ use Rattle.laws.proofs.Table.{run-enough, run-local}
 use Rattle.laws.proofs.Distances.{lines}
 use Rattle.chunk_laws.proofs.Types.{stretch-local}
 
-size-mini-name : size (fixed miniLabel ∷ value (text 10) ∷ []) ≡ 20
+pub size-mini-name : size (fixed miniLabel ∷ value (text 10) ∷ []) ≡ 20
 unfolding lines miniLabel
 size-mini-name = refl
 
-size-mini-data : (n : ℕ) → size (value i12 ∷ value (free n) ∷ []) ≡ 12 + n
+pub size-mini-data : (n : ℕ) → size (value i12 ∷ value (free n) ∷ []) ≡ 12 + n
 unfolding lines
 size-mini-data n = omega arith
 
-mini-fits : (ids : List (List ℕ)) (t : List ℕ) → miniFault ids t ≡ 0 → 32 + miniData t ≤ length t
+pub mini-fits : (ids : List (List ℕ)) (t : List ℕ) → miniFault ids t ≡ 0 → 32 + miniData t ≤ length t
 unfolding miniFault
 mini-fits ids t e =
     let a = rw size-mini-name at (run-enough _ t (⊳-left _ _ e)) in

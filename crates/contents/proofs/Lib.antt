@@ -1,4 +1,2 @@
--- Rows      the row of a number, as the walk finds it: 11, 13, and where its parts lie in the file
--- Answers   what contents answers
-pub mod Rows
+-- Answers   the part that a row names, and what contents hands back
 pub mod Answers

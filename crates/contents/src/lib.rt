@@ -1,40 +1,47 @@
 // The call contents: "hands back the part of the file that the row names, uncopied; refused, an empty part and the
-// number". The row is that of a reading with rows enough, which the crate walk goes through without a table; no sum is
-// taken. The contract cites contents of the crate metafile (specs/Calls). proofs/Rows has what a row found there says of
-// the file; parent and gather rest on it too.
+// number". The part is found once, by its place and bytes; contents hands it back as a part of the lent slice. The row is
+// that of a reading with rows enough, which the crate walk goes through without a table; no sum is taken. The contract
+// cites contents of the crate metafile (specs/Calls), and specs/Outcome; it rests on the laws of the row of a number in
+// walk (proofs/Named).
 ghost use mathlib.Core.Path.{_≡_};
-ghost use mathlib.Core.List.{[]};
 ghost use Rattle.metafile.specs.Calls.{contents};
-ghost use Rattle.contents.specs.Outcome.{contentsOutcome};
+ghost use Rattle.contents.specs.Outcome.{contentsOutcome, partOf};
 
-// 2^30: a longer file is refused, 11.
-const LIMIT: usize = 1073741824;
-
-// "refused, an empty part and the number"
-fn refused<'a>(file: &'a [u8], n: u8, number: &mut u8) -> &'a [u8]
-    ensures { λ r. ⌜ contentsOutcome (now r) (now (number .exit)) ≡ contentsOutcome [] n ⌝ }
-{
-    *number = n;
-    &file[..0]
+// A part of the file, by its place and its bytes; beside a number that is not 0 both are 0.
+#[repr(C)]
+pub struct Part {
+    pub place: usize,
+    pub bytes: usize,
+    pub number: u8,
 }
 
-// Tests 11, then 13.
+// The part of the file that a row names. Tests 11, then 13.
+pub fn part_of(file: &[u8], row: usize) -> Part
+    ensures { λ r. ⌜ r ≡ partOf (now (file .entry)) row ⌝ }
+{
+    let mut index = [0u32; walk::INDEX];
+    let own = walk::row_of(file, row, &mut index);
+    if own.number != 0 {
+        return Part {
+            place: 0,
+            bytes: 0,
+            number: own.number,
+        };
+    }
+    Part {
+        place: own.at + own.layout.contents,
+        bytes: own.layout.bytes,
+        number: 0,
+    }
+}
+
+// "refused, an empty part and the number"
 pub fn contents<'a>(file: &'a [u8], row: usize, number: &mut u8) -> &'a [u8]
     ensures { λ r. ⌜ contentsOutcome (now r) (now (number .exit)) ≡ contents (now (file .entry)) row ⌝ }
 {
-    if LIMIT < file.len() {
-        return refused(file, 11, number);
-    }
-    let h = walk::header(file);
-    if h.number != 0 {
-        return refused(file, 13, number);
-    }
-    let found = walk::row_at(file, h, row);
-    if !found.there {
-        return refused(file, 13, number);
-    }
-    *number = 0;
-    let at = found.place + found.layout.contents;
-    let end = at + found.layout.bytes;
+    let part = part_of(file, row);
+    *number = part.number;
+    let at = part.place;
+    let end = at + part.bytes;
     &file[at..end]
 }

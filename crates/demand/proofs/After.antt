@@ -27,9 +27,9 @@ use Rattle.chunk_laws.proofs.Chunk.{unfaulted}
 use Rattle.chunk_laws.proofs.Rows.{some-bytes, past, read-end, read-stop, read-step, step-cases, next-whole}
 use Rattle.chunk_laws.proofs.File.{file-goes-on}
 use Rattle.chunk_laws.proofs.Serials.{not-past}
-use Rattle.demand.specs.Taken.{Taken}
-use Rattle.demand.proofs.Stretches.{chunkBytes, length-third, length-chunk}
-use Rattle.demand.proofs.Finished.{finished-whole, finished-end, finished-serial, finished-row}
+use Rattle.written_laws.specs.Taken.{Taken}
+use Rattle.written_laws.proofs.Stretches.{chunkBytes, length-third, length-chunk}
+use Rattle.written_laws.proofs.Finished.{finished-whole, finished-end, finished-serial, finished-row}
 use Rattle.demand.proofs.Cut.{leftOf, whole-finished}
 
 -- more rows lent than the old file has: these rows, this stop and number, and the header's sum as before

@@ -14,8 +14,8 @@ use Rattle.metafile.specs.Answers.{placed}
 use Rattle.metafile.specs.Append.{Given, firstWrite, thirdWrite, newChunk, firstEnd, secondEnd, thirdEnd, append}
 use Rattle.metafile.specs.Cut.{Write, headerWrite, contentsWrite, closingWrite, CutPoint, writeStart, writeEnd, zeroed, leftOver, remains}
 use Rattle.metafile.specs.Demand.{finished}
-use Rattle.demand.proofs.Taken.{Appended}
-use Rattle.demand.proofs.Stretches.{chunkBytes, newChunk-is}
+use Rattle.written_laws.proofs.Taken.{Appended}
+use Rattle.written_laws.proofs.Stretches.{chunkBytes, newChunk-is}
 use Rattle.demand.proofs.Cut.{leftOf}
 
 -- the part b between a and c, cut and with blocks zeroed

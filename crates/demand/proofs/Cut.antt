@@ -30,9 +30,9 @@ use Rattle.laws.proofs.Table.{strict, strictKind, allStrict, fault-enough, faul
 use Rattle.laws.proofs.Distances.{lines, size-closing}
 use Rattle.chunk_laws.proofs.Chunk.{Whole, fits}
 use Rattle.demand.proofs.Damage.{Damaged, damaged-append, damaged-more, damaged-length, damaged-drop, mend, zeroed-part}
-use Rattle.demand.specs.Taken.{Taken}
-use Rattle.demand.proofs.Stretches.{chunkBytes, tailPart, chunk-closed, length-third, length-chunk}
-use Rattle.demand.proofs.Numbers.{isMulti-is, at-tail, contentCount-is, mark-first, contentsPlace-is, behind-line}
+use Rattle.written_laws.specs.Taken.{Taken}
+use Rattle.written_laws.proofs.Stretches.{chunkBytes, tailPart, chunk-closed, length-third, length-chunk}
+use Rattle.written_laws.proofs.Numbers.{isMulti-is, at-tail, contentCount-is, mark-first, contentsPlace-is, behind-line}
 
 -- a strict field that passes has the old bytes
 field-same : (f : Field) (p : ℕ) (t u : List ℕ) → Damaged t u → strict f ≡ true → fault f (drop p t) ≡ 0 → part p (fieldWidth f) t ≡ part p (fieldWidth f) u

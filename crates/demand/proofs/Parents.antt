@@ -29,9 +29,9 @@ use Rattle.chunk_laws.proofs.Chunk.{Whole}
 use Rattle.chunk_laws.proofs.Local.{subFormat-local, dependencySerial-local, dependencySubFormat-local}
 use Rattle.chunk_laws.proofs.Places.{row-placed, placed-end, placed-least}
 use Rattle.chunk_laws.proofs.Serials.{file-fresh, rowWith-found, rowWith-missing, rowWith-self}
-use Rattle.demand.specs.Taken.{Taken}
-use Rattle.demand.proofs.Stretches.{chunkBytes}
-use Rattle.demand.proofs.Handed.{dependencySerial-at, dependencySubFormat-at}
+use Rattle.written_laws.specs.Taken.{Taken}
+use Rattle.written_laws.proofs.Stretches.{chunkBytes}
+use Rattle.written_laws.proofs.Handed.{dependencySerial-at, dependencySubFormat-at}
 use Rattle.demand.proofs.Asked.{answerTo, Asked, parent-asked, asked-parent, answer-found, answer-missing, answer-cases, none≢some}
 
 -- ---- more bytes and more rows behind

@@ -10,8 +10,8 @@ use lib.Seq.{drop-append-seam}
 use Rattle.metafile.specs.Reading.{reading, rowsOf}
 use Rattle.metafile.specs.Append.{Given}
 use Rattle.metafile.specs.Demand.{Accepted, finished, newRow, HandedIn}
-use Rattle.demand.proofs.Taken.{accepted}
-use Rattle.demand.proofs.Stretches.{chunkBytes}
+use Rattle.written_laws.proofs.Taken.{accepted}
+use Rattle.written_laws.proofs.Stretches.{chunkBytes}
 use Rattle.demand.proofs.Buffer.{finished-is}
 use Rattle.demand.proofs.After.{finished-reads}
 use Rattle.demand.proofs.Theorem.{reading-is, small-enough, handed-done}

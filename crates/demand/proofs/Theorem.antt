@@ -18,13 +18,13 @@ use Rattle.metafile.specs.Append.{Given, firstEnd, secondEnd, thirdEnd}
 use Rattle.metafile.specs.Calls.{ReadOutcome, readAnswer, filled, read}
 use Rattle.metafile.specs.Demand.{newRow, HandedIn, Clean, Safe, Demand3}
 use Rattle.chunk_laws.proofs.File.{clean-begun, header-whole, fits-headerEnd, headerEnd-least, file-few}
-use Rattle.demand.specs.Taken.{Taken}
-use Rattle.demand.proofs.Taken.{Appended, accepted}
-use Rattle.demand.proofs.Stretches.{chunkBytes, length-chunk}
+use Rattle.written_laws.specs.Taken.{Taken}
+use Rattle.written_laws.proofs.Taken.{Appended, accepted}
+use Rattle.written_laws.proofs.Stretches.{chunkBytes, length-chunk}
 use Rattle.demand.proofs.Cut.{leftOf, leftOf-length}
 use Rattle.demand.proofs.Buffer.{finished-is, remains-is}
 use Rattle.demand.proofs.After.{Reads, After, all-of-it, no-chunk, after}
-use Rattle.demand.proofs.Handed.{handed-in}
+use Rattle.written_laws.proofs.Handed.{handed-in}
 use Rattle.demand.proofs.Parents.{found-kept, missing-late, missing-kept, new-parents}
 
 -- ---- read, where 11 doesn't refuse
@@ -48,7 +48,7 @@ rows-less old z =
     let w = header-whole old (clean-begun (length old) old z) in
     omega (arith, fits-headerEnd old w, headerEnd-least old, file-few old)
 
-cancel : (a b c : List ℕ) → a ++ b ≡ a ++ c → b ≡ c
+pub cancel : (a b c : List ℕ) → a ++ b ≡ a ++ c → b ≡ c
 cancel a b c e = sym (drop-append-seam a b) ∙ ap (drop (length a)) e ∙ drop-append-seam a c
 
 end-is : (old : List ℕ) (g : Given) → Taken old g → length (old ++ chunkBytes old g) ≡ thirdEnd old g

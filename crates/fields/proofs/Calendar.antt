@@ -14,7 +14,7 @@ use mir.Syntax.{w64}
 use mir.Val.{Fits, boolByte}
 use borrow.Author.Tests.{eqb-true, ltb-true, ltb-false}
 use Rattle.metafile.specs.Fields.{leap, monthDays}
-use Rattle.fields.proofs.Bools.{test}
+use Rattle.laws.proofs.First.{test}
 use Rattle.fields.proofs.Tables.{table, table-at}
 
 -- the days of a month that is not the second, and of all months from the first on, x in the second, none before

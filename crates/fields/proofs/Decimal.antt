@@ -18,7 +18,7 @@ use lib.Pow.{pow-add}
 use lib.Seq.{take-length}
 use borrow.Author.Tests.{eq-eqb, ne-eqb, ltb-true, ltb-false, lt-ltb, le-ltb}
 use Rattle.metafile.specs.Fields.{isDigit, isSpace, number, takeWhile, dropWhile, pointPassed, digitsBefore, pointOn, digitsBehind, second, decimalUnits}
-use Rattle.fields.proofs.Bools.{test}
+use Rattle.laws.proofs.First.{test}
 use Rattle.fields.proofs.Prefix.{prefix-le, rest-le, rest-stops}
 use Rattle.fields.proofs.Digits.{number-append, digits-below}
 use Rattle.fields.proofs.Tables.{table, table-at}

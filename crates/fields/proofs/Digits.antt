@@ -11,7 +11,7 @@
 -- Assumes nothing.
 use Prim.Native.Nat.{ℕ, suc, _+_, _-_, _*_, _^_, _≤_, _<_}
 use mathlib.Core.Bool.{true}
-use mathlib.Core.Path.{_≡_, refl, _∙_}
+use mathlib.Core.Path.{_≡_, _∙_}
 use mathlib.Core.List.{List, [], _∷_, _++_}
 use native.Mathlib.Omega.{arith}
 use native.Mathlib.Nat.{pow-le-pow-right, pow-suc, mul-le-mul-right}
@@ -21,7 +21,8 @@ use lib.Seq.{drop-cons}
 use borrow.Author.Tests.{leb-true}
 use Rattle.metafile.specs.Bytes.{all}
 use Rattle.metafile.specs.Fields.{isDigit, number, numberFrom, digitsTo, takeWhile}
-use Rattle.fields.proofs.Bools.{test, and-right}
+use Rattle.laws.proofs.First.{test, and-both}
+use Rattle.laws.proofs.Digits.{numberFrom-append}
 
 -- ---- bounds
 
@@ -68,18 +69,13 @@ module _ (s : List ℕ) where
 
 -- ---- two runs, and the number's size
 
-numberFrom-append : (x : ℕ) (s t : List ℕ) → numberFrom x (s ++ t) ≡ numberFrom (numberFrom x s) t
-unfolding numberFrom
-numberFrom-append x [] t = refl
-numberFrom-append x (d ∷ s) t = numberFrom-append (x * 10 + (d - 48)) s t
-
 pub number-append : (s t : List ℕ) → number (s ++ t) ≡ number s * 10 ^ length t + number t
 unfolding number
 number-append s t = numberFrom-append 0 s t ∙ numberFrom-is (numberFrom 0 s) t
 
 digit-le : (x : ℕ) → isDigit x ≡ true → x - 48 ≤ 9
 unfolding isDigit
-digit-le x e = omega (arith, leb-true x 57 (and-right (leb 48 x) (leb x 57) e))
+digit-le x e = omega (arith, leb-true x 57 (and-both (leb 48 x) (leb x 57) e .1))
 
 -- the digits at the start of a run
 pub digits-below : (s : List ℕ) → number (takeWhile isDigit s) < 10 ^ length (takeWhile isDigit s)
@@ -95,4 +91,4 @@ digits-below (d ∷ s) =
 
 pub digits-to : (most : ℕ) (s : List ℕ) → digitsTo most s ≡ true → number s ≤ most
 unfolding digitsTo
-digits-to most s e = leb-true (number s) most (and-right (all isDigit s) (leb (number s) most) e)
+digits-to most s e = leb-true (number s) most (and-both (all isDigit s) (leb (number s) most) e .1)

@@ -1,4 +1,3 @@
--- Bools      truth values
 -- Prefix     the longest beginning of bytes that pass a test
 -- Digits     numbers in digits
 -- Tables     a function's values in a list
@@ -6,7 +5,6 @@
 -- Decimal    the parts of a decimal, and its value
 -- Same       bytes compared and copied
 -- Offset     time offsets: the sign, the tests, the value
-pub mod Bools
 pub mod Prefix
 pub mod Digits
 pub mod Tables

@@ -19,7 +19,7 @@ use mir.ValLaws.{toZ-pos, toZ-ofZ}
 use borrow.Author.Tests.{ltb-true}
 use Rattle.metafile.specs.Bytes.{bytes, part, member}
 use Rattle.metafile.specs.Fields.{number, digitsTo, isDecimal, second, decimalUnits, isOffset, offsetUnits, offsetValue}
-use Rattle.fields.proofs.Bools.{and-left, and-right}
+use Rattle.laws.proofs.First.{and-both}
 use Rattle.fields.proofs.Digits.{digits-to}
 use Rattle.fields.proofs.Same.{first-is}
 
@@ -59,19 +59,19 @@ module _ (s : List ℕ) (e : isOffset s ≡ true) where
   tested = sym (offset-is s) ∙ e
 
   times : Sign s && Hours s && Minutes s ≡ true
-  times = and-left (Sign s && Hours s && Minutes s) (Seconds (part 5 11 s)) tested
+  times = and-both (Sign s && Hours s && Minutes s) (Seconds (part 5 11 s)) tested .0
 
   pub hours-le : number (part 1 2 s) ≤ 23
-  hours-le = digits-to 23 (part 1 2 s) (and-right (Sign s) (Hours s) (and-left (Sign s && Hours s) (Minutes s) times))
+  hours-le = digits-to 23 (part 1 2 s) (and-both (Sign s) (Hours s) (and-both (Sign s && Hours s) (Minutes s) times .0) .1)
 
   pub minutes-le : number (part 3 2 s) ≤ 59
-  minutes-le = digits-to 59 (part 3 2 s) (and-right (Sign s && Hours s) (Minutes s) times)
+  minutes-le = digits-to 59 (part 3 2 s) (and-both (Sign s && Hours s) (Minutes s) times .1)
 
   pub seconds-lt : decimalUnits (part 5 11 s) < 60 * second
   seconds-lt =
       ltb-true (decimalUnits (part 5 11 s)) (60 * second)
-      (and-right (isDecimal (part 5 11 s)) (Below (part 5 11 s))
-      (and-right (Sign s && Hours s && Minutes s) (Seconds (part 5 11 s)) tested))
+      (and-both (isDecimal (part 5 11 s)) (Below (part 5 11 s))
+      (and-both (Sign s && Hours s && Minutes s) (Seconds (part 5 11 s)) tested .1) .1)
 
 -- ---- the sign put to a value
 

@@ -18,14 +18,14 @@ use mathlib.Core.Path.{_≡_, refl, sym, _∙_, fun-ext}
 use mathlib.Core.List.{List, [], _∷_}
 use native.Mathlib.Omega.{arith}
 use native.Mathlib.Numerals.{add-one}
-use native.Mathlib.Nat.{le-of-eq}
 use lib.Dec.{leb, eqb, eqb·zero-suc, eqb·suc-suc}
-use lib.ListN.{length, take, drop, getD, length-drop, drop-of-length-le}
-use lib.Seq.{drop-cons, take-all, length-take-le}
+use lib.ListN.{length, take, drop, getD, drop-of-length-le}
+use lib.Seq.{drop-cons, length-take-le}
 use borrow.Author.Tests.{le-leb, lt-leb, leb-true, leb-false, ne-eqb, eq-eqb}
 use Rattle.metafile.specs.Bytes.{all}
 use Rattle.metafile.specs.Fields.{isSpace, takeWhile, dropWhile}
-use Rattle.fields.proofs.Bools.{test}
+use Rattle.laws.proofs.First.{test}
+use Rattle.laws.proofs.Loops.{part-drop}
 
 -- ---- a byte from low to high
 
@@ -134,7 +134,7 @@ module _ (p : ℕ → Bool) where
 
     -- as a part to the end of the slice
     pub rest-is : take (length s - n) (drop n s) ≡ dropWhile p s
-    rest-is = take-all (length s - n) (drop n s) (le-of-eq (length-drop n s)) ∙ rw e (drop-prefix s)
+    rest-is = part-drop s n ∙ rw e (drop-prefix s)
 
     pub whole-is : eqb n (length s) ≡ all p s
     whole-is = rw e (sym (all-prefix s))

@@ -23,8 +23,8 @@ use Rattle.metafile.specs.Calls.{multiOf}
 use Rattle.laws.proofs.First.{test}
 use Rattle.laws.proofs.Lists.{same-eq}
 use Rattle.laws.proofs.Loops.{part-drop}
-use Rattle.walk.specs.declared.answers.Found.{Found}
-use Rattle.contents.proofs.Rows.{Named}
+use Rattle.walk.specs.declared.cursor.Cursor.{Cursor}
+use Rattle.walk.proofs.Named.{Named}
 use Rattle.chunk_laws.proofs.Places.{Placed, row-placed}
 
 -- ---- the contents
@@ -49,10 +49,10 @@ module _ (llc : Bool) (m file : List ℕ) (r : Row) (w : Placed llc m file r) (e
       ∙ ap (λ (b : Bool). contentsFault b llc m (drop (headerBytes (drop (r .place) file)) (drop (r .place) file))) (sym multi-is)
       ∙ w .chunk .in-contents
 
-module _ (file : List ℕ) (k : ℕ) (f : Found) (w : Named file k f) where
-  pub contents-of : take (length file - (f .place + f .layout .contents)) (drop (f .place + f .layout .contents) file) ≡ multiOf file k
+module _ (file : List ℕ) (k : ℕ) (f : Cursor) (w : Named file k f) where
+  pub contents-of : take (length file - (f .at + f .layout .contents)) (drop (f .at + f .layout .contents) file) ≡ multiOf file k
   unfolding multiOf
-  contents-of = part-drop file (f .place + f .layout .contents) ∙ ap (λ (n : ℕ). drop n file) (w .contents-is)
+  contents-of = part-drop file (f .at + f .layout .contents) ∙ ap (λ (n : ℕ). drop n file) (w .contents-is)
 
   pub multi-whole : f .layout .multichunk ≡ true → multiFault (multiOf file k) ≡ 0
   unfolding multiOf

@@ -1,14 +1,17 @@
--- What an accepted call says of its tests: none of them holds.
+-- The tests of a call: the first that holds, lengths over the limit, and what an accepted call answers.
 --     refusal-none   the first refusal is none: the first test doesn't hold, nor do the others
+--     refusal-first refusal-next tests-end   the first test holds; it doesn't; there is none left
+--     limit-over limit-within limit-under    a length over the limit; one within it, before others, alone
 --     accepted-..    a call that writes answers a result only where no test holds, and then what was defined
 -- Assumes nothing.
-use Prim.Native.Nat.{ℕ, zero, suc}
-use mathlib.Core.Bool.{Bool, true, false, cond}
+use Prim.Native.Nat.{ℕ, zero, suc, _≤_, _<_}
+use mathlib.Core.Bool.{Bool, true, false, cond, _||_}
 use mathlib.Core.Path.{_≡_, refl, sym, ap, _∙_}
 use mathlib.Core.List.{List, [], _∷_}
 use native.Mathlib.Omega.{arith}
+use borrow.Author.Tests.{lt-ltb, le-ltb}
 use Rattle.metafile.specs.Bytes.{choose}
-use Rattle.metafile.specs.Answers.{Answer, result, refused, Test, refuse, firstRefusal, Outcome, unlessRefused}
+use Rattle.metafile.specs.Answers.{Answer, result, refused, Test, refuse, firstRefusal, limit, overLimit, Outcome, outcome, unlessRefused}
 use Rattle.laws.proofs.First.{cases, choose-go, choose-stop}
 
 pub refusal-none : (n : ℕ) (b : Bool) (ts : List Test) → firstRefusal (refuse (suc n) b ∷ ts) ≡ 0 → (b ≡ false) × (firstRefusal ts ≡ 0)
@@ -23,6 +26,26 @@ refusal-first n b ts e = rw e
 pub refusal-next : (n : ℕ) (b : Bool) (ts : List Test) → b ≡ false → firstRefusal (refuse n b ∷ ts) ≡ firstRefusal ts
 unfolding firstRefusal refuse
 refusal-next n b ts e = rw e
+
+pub tests-end : firstRefusal [] ≡ 0
+unfolding firstRefusal
+tests-end = refl
+
+-- ---- 11
+
+pub limit-over : (n : ℕ) (ns : List ℕ) → 1073741824 < n → overLimit (n ∷ ns) ≡ true
+unfolding overLimit limit
+limit-over n ns h = rw (lt-ltb 1073741824 n h)
+
+pub limit-within : (n : ℕ) (ns : List ℕ) → n ≤ 1073741824 → overLimit (n ∷ ns) ≡ overLimit ns
+unfolding overLimit limit
+limit-within n ns h = rw (le-ltb 1073741824 n h)
+
+pub limit-under : (n : ℕ) → n ≤ 1073741824 → overLimit (n ∷ []) ≡ false
+unfolding overLimit
+limit-under n h = limit-within n [] h
+
+-- ---- a call that writes
 
 refused≢result : {A : Type 0} (n : ℕ) (vs : List ℕ) → refused n ≡ result vs → A
 refused≢result n vs e = let z : _≡_ {A = ℕ} 0 1 = cc in absurd (omega arith)

@@ -26,6 +26,7 @@ use Rattle.laws.proofs.First.{test, untrue, and-both, both-and, or-true
 use Rattle.laws.proofs.Lists.{same-eq, same-refl, same-not}
 use Rattle.laws.proofs.Digits.{countValue-digitsOf, length-digitsOf}
 use Rattle.laws.proofs.Table.{field-long, field-own, field-enough, formed-width, formed-fault, formed-split, write-size, write-run, write-at, lefts}
+use Rattle.laws.proofs.Loops.{placed-start}
 use Rattle.laws.proofs.Distances.{lines, size-title}
 use Rattle.laws.proofs.Closed.{closed-length, closed-run, closed-good}
 use Rattle.laws.proofs.Accepted.{refusal-none, accepted-none, accepted-is}
@@ -200,10 +201,6 @@ module _ (b : BeginGiven) (buffer : List ℕ) (a : BeginTaken b buffer) where
       ∙ rw (begun-good, begun-end, drop-length (begunFile b), begun-rows n (isLLC (begunFile b)) (markOf (begunFile b)) [] (length (begunFile b)))
 
 -- ---- what begin wrote
-
-placed-start : (v buffer : List ℕ) → take (length v) (placed 0 v buffer) ≡ v
-unfolding placed
-placed-start v buffer = take-append-seam v (drop (0 + length v) buffer)
 
 pub begun-reading : (b : BeginGiven) (buffer : List ℕ) (k : ℕ) → begin b buffer .answer ≡ result (k ∷ [])
     → (n : ℕ) → readFile n (take k (begin b buffer .buffer)) ≡ record { rows = []; stop = k; good = true; number = 0 }

@@ -8,6 +8,8 @@ use Prim.Native.Nat.{ℕ, zero, suc}
 use mathlib.Core.Bool.{Bool, true, false, cond, not, _&&_, _||_}
 use mathlib.Core.Path.{_≡_, refl, sym, _∙_}
 use native.Mathlib.Omega.{arith}
+use lib.Dec.{eqb}
+use borrow.Author.Tests.{ne-eqb}
 use Rattle.metafile.specs.Bytes.{_⊳_, require, choose, isZero, nonZero}
 
 pub test : {A : Type 0} (b : Bool) → (b ≡ true → A) → (b ≡ false → A) → A
@@ -58,6 +60,16 @@ pub isZero-not : (n : ℕ) → (n ≡ 0 → ⊥) → isZero n ≡ false
 unfolding isZero
 isZero-not zero h = absurd (h refl)
 isZero-not (suc n) h = refl
+
+-- as the code tests it
+pub or-none : (a : Bool) → (a || false) ≡ a
+or-none true = refl
+or-none false = refl
+
+pub isZero-eqb : (n : ℕ) → eqb n 0 ≡ isZero n
+unfolding isZero
+isZero-eqb zero = refl
+isZero-eqb (suc n) = ne-eqb (suc n) 0 (λ e. omega arith)
 
 -- ---- the first fault
 

@@ -3,18 +3,24 @@
 -- Digits     a number in n digits is read back
 -- Zero       what holds no zero byte: digits, text, date, offset, serial number
 -- Table      the field rule, and the laws of a run over a stretch of fields: enough, local, zero-free, round trip
+-- Stages     stages in a row as code goes through them, and bytes at a place
 -- Loops      what loops over bytes need
 -- Distances  sizes of the stretches, and the distances at which values are read
 -- Closed     a closing that was written is read back
 -- Accepted   what an accepted call says of its tests
 -- Begun      what begin wrote reads cleanly
+-- Limits     the limit of lent buffers, for any number of them
+-- Outcomes   what a call that writes answers and leaves, from its tests
 pub mod First
 pub mod Lists
 pub mod Digits
 pub mod Zero
 pub mod Table
+pub mod Stages
 pub mod Loops
 pub mod Distances
 pub mod Closed
 pub mod Accepted
 pub mod Begun
+pub mod Limits
+pub mod Outcomes

@@ -2,7 +2,7 @@
 --     same-eq same-refl same-not   equal bytes; all-append all-weaken all-take all-drop: a test over all bytes
 --     part-local                   a part that ends inside is the same with more bytes behind
 --     length-padded padded-take    padding
---     starts-local find-local find-least find-fits find-here   the first place of a mark
+--     starts-local find-local find-least find-fits   the first place of a mark
 -- Assumes nothing.
 use Prim.Native.Nat.{ℕ, zero, suc, _+_, _-_, _≤_, _<_}
 use mathlib.Core.Bool.{Bool, true, false, cond, not, _&&_, _||_}

@@ -3,7 +3,7 @@
 --     fixed-short fixed-bad fixed-good   the answers of a comparison with a fixed text
 --     part-drop              the part of a slice from a place to its end
 --     put-none put-more put-all   bytes put one by one at a place of a buffer
---     placed-length placed-placed placed-take   bytes put at a place
+--     placed-length placed-placed placed-start placed-over   bytes put at a place, at the start
 -- Assumes nothing.
 use Prim.Native.Nat.{ℕ, zero, suc, _+_, _-_, _≤_, _<_}
 use mathlib.Core.Bool.{Bool, true, false}
@@ -13,7 +13,7 @@ use native.Mathlib.Omega.{arith}
 use native.Mathlib.Nat.{le-of-eq}
 use native.Mathlib.Numerals.{add-one}
 use lib.Dec.{leb}
-use lib.ListN.{length, take, drop, getD, set, length-append, length-take, length-drop, take-append-drop}
+use lib.ListN.{length, take, drop, getD, set, length-append, length-take, length-drop, take-append-drop, drop-of-length-le}
 use lib.Seq.{take-suc, take-all, take-length, getD-take, take-at, drop-at, drop-drop, take-append-seam, drop-append-add, take-append-le, set-split, length-take-le, take-add}
 use Rattle.metafile.specs.Bytes.{part, same, require}
 use Rattle.metafile.specs.Lines.{fixed, fixedFault, fault}
@@ -78,6 +78,17 @@ unfolding placed
 placed-nothing p b =
     let z : p + 0 ≡ p = omega arith in
     rw z (take-append-drop p b)
+
+-- at the start of a buffer: the first bytes, and a buffer of just as many bytes
+pub placed-start : (v buffer : List ℕ) → take (length v) (placed 0 v buffer) ≡ v
+unfolding placed
+placed-start v buffer = take-append-seam v (drop (0 + length v) buffer)
+
+pub placed-over : (v buffer : List ℕ) → length v ≡ length buffer → placed 0 v buffer ≡ v
+unfolding placed
+placed-over v buffer e =
+    let none : drop (0 + length v) buffer ≡ [] = drop-of-length-le buffer {i = 0 + length v} (omega arith) in
+    rw (none, append-nil)
 
 placed-one : (q x : ℕ) (c : List ℕ) → q < length c → placed q (x ∷ []) c ≡ set c q x
 unfolding placed

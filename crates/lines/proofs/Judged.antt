@@ -1,6 +1,6 @@
 -- What the judging functions need of the definitions, each answer as a lemma on lists.
 --     judged-short judged     a field that is too short; a field that has its bytes, as the code takes them
---     nines-is same-word      the constant lists of the code
+--     same-word               the constant list of the code
 --     word-one word-two either-own   one of the words listed
 --     stamp-.. strategy-..    a word and the field behind it
 --     kind-told told-..       the kind of a line and its bound, from the code's kind
@@ -12,7 +12,7 @@ use mathlib.Core.List.{List, [], _∷_, _++_}
 use native.Mathlib.Nat.{mul-le-mul-right, mul-assoc, mul-one, one-mul, pow-succ'}
 use native.Mathlib.Omega.{arith}
 use lib.Dec.{leb, eqb}
-use lib.ListN.{length, take, drop, getD, length-drop}
+use lib.ListN.{length, take, drop, length-drop}
 use lib.Seq.{drop-drop, take-take, length-take-le}
 use borrow.Author.Tests.{eqb-true, eqb-false, leb-true, le-leb}
 use Rattle.metafile.specs.Fields.{isDigit, numberFrom, number, isCount, countValue}
@@ -23,7 +23,7 @@ use Rattle.table.specs.declared.Kind.the-variants.{Checksum}
 use Rattle.table.specs.declared.Line.{Line as CodeLine}
 use Rattle.table.specs.Codes.{lineNo, codeNo, kindOf}
 use Rattle.table.proofs.Lines.{kind-is, checksum-small}
-use Rattle.laws.proofs.First.{test, and-both, or-left, or-right, ⊳-stop, ⊳-go}
+use Rattle.laws.proofs.First.{test, and-both, or-left, or-right, ⊳-stop, ⊳-go, or-none}
 use Rattle.laws.proofs.Lists.{same-eq}
 use Rattle.laws.proofs.Table.{field-short, field-long, field-enough}
 use Rattle.lines.specs.Words.{wordNo}
@@ -90,14 +90,6 @@ below-at p (suc n) i e h =
     (λ q. rw (eqb-true i n q) (k .0))
     (λ q. let m = eqb-false i n q in below-at p n i (k .1) (omega arith))
 
--- the largest number of so many digits
-abbrev pub nines : List ℕ
-nines = 0 ∷ 9 ∷ 99 ∷ 999 ∷ 9999 ∷ 99999 ∷ 999999 ∷ 9999999 ∷ 99999999 ∷ 999999999 ∷ 9999999999 ∷ 99999999999 ∷ 999999999999 ∷ []
-
-pub nines-is : (n : ℕ) → n ≤ 12 → getD nines n 0 ≡ 10 ^ n - 1
-unfolding below
-nines-is n h = eqb-true _ _ (below-at (λ i. eqb (getD nines i 0) (10 ^ i - 1)) 13 n refl (omega arith))
-
 -- ---- the listed words
 
 -- all words in a row, as the code has them
@@ -114,10 +106,6 @@ same-word s at w h =
     let a : at + 3 - at ≡ 3 = omega arith in
     let b : w * 3 + 3 - w * 3 ≡ 3 = omega arith in
     rw (a, b, word-is w h)
-
-or-none : (b : Bool) → (b || false) ≡ b
-or-none true = refl
-or-none false = refl
 
 -- one of one or two words, from the comparisons
 pub word-one : (a v : List ℕ) (x : Bool) → x ≡ same v a → member v (a ∷ []) ≡ x

@@ -4,7 +4,7 @@
 --     placed-next placed-byte copied   bytes put behind bytes
 --     line-put lines-put ..     a line and the lines behind it put
 --     digit-put                 the last digit put before the others
---     closing-..                the closing put piece by piece; closingFor-is: with the integrity data of the definitions
+--     closing-..                the closing put piece by piece
 -- Assumes nothing.
 use Prim.Native.Nat.{ℕ, zero, suc, _+_, _-_, _/_, _%_, _≤_, _<_}
 use mathlib.Core.Bool.{true, false, _&&_}
@@ -19,7 +19,7 @@ use borrow.Author.Tests.{eq-eqb, ne-eqb}
 use Rattle.metafile.specs.Bytes.{part, sum}
 use Rattle.metafile.specs.Fields.{digitsOf}
 use Rattle.metafile.specs.Lines.{Kind, Field, fixed, value, Line, lf, opened, linesOf, width, fieldWidth, kindFault, fault, size, firstOf, othersOf, put, left, write, formed, checksum, table}
-use Rattle.metafile.specs.Closing.{integrityLines, summed, unsummed, Integrity, integrityValues, summedBytes, closingBytes}
+use Rattle.metafile.specs.Closing.{integrityLines, summed, unsummed}
 use Rattle.metafile.specs.Answers.{placed}
 use Rattle.table.specs.Codes.{lineNo, linesFrom}
 use Rattle.laws.proofs.Digits.{length-digitsOf}
@@ -27,7 +27,6 @@ use Rattle.laws.proofs.Table.{kind-local, size-split, write-split, lefts}
 use Rattle.laws.proofs.Loops.{part-drop, placed-length, placed-placed, placed-nothing, put-more}
 use Rattle.laws.proofs.Closed.{fixed-formed}
 use Rattle.laws.proofs.Distances.{lines}
-use Rattle.lines.specs.Parts.{fieldNo}
 use Rattle.lines.specs.Values.{chopped, valuesSize, closingFor}
 use Rattle.lines.proofs.Runs.{lines-first, lines-none, linesOf-cons}
 
@@ -70,24 +69,23 @@ module _ (values : List ℕ) (v i end : ℕ) (h : i < end) (l : end ≤ 24) (lon
   pub value-room : v + width (lineNo i .kind) ≤ length values
   value-room = omega (arith, sizes)
 
-  pub value-next : (w : ℕ) → w ≡ width (lineNo i .kind) → length values ≡ v + w + valuesSize (linesFrom (i + 1) (end - (i + 1)))
+  pub value-next : (p : ℕ) → p ≡ v + width (lineNo i .kind) → length values ≡ p + valuesSize (linesFrom (i + 1) (end - (i + 1)))
   unfolding others
-  value-next w e = omega (arith, sizes)
+  value-next p e = omega (arith, sizes)
 
-  rest-formed : formed (linesOf (linesFrom i (end - i))) (chopped (linesFrom i (end - i)) (drop v values)) ≡ (eqb (fault (fieldNo i 1) (drop v values)) 0 && formed (linesOf others) (chopped others (drop (v + width (lineNo i .kind)) values)))
-  unfolding fieldNo opened fault
+  rest-formed : formed (linesOf (linesFrom i (end - i))) (chopped (linesFrom i (end - i)) (drop v values)) ≡ (eqb (kindFault (lineNo i .kind) (drop v values)) 0 && formed (linesOf others) (chopped others (drop (v + width (lineNo i .kind)) values)))
   rest-formed =
       rw here
       (values-judged (lineNo i) others (drop v values) (simp length-drop (omega (arith, sizes))) ∙ rw (drop-drop (width (lineNo i .kind)) v values))
 
-  module _ (r : ℕ) (e : r ≡ fault (fieldNo i 1) (drop v values)) where
+  module _ (r : ℕ) (e : r ≡ kindFault (lineNo i .kind) (drop v values)) where
     pub formed-bad : (r ≡ 0 → ⊥) → false ≡ formed (linesOf (linesFrom i (end - i))) (chopped (linesFrom i (end - i)) (drop v values))
     formed-bad n = sym (rest-formed ∙ rw (← e, ne-eqb r 0 n))
 
-    pub formed-good : (w : ℕ) → r ≡ 0 → w ≡ width (lineNo i .kind)
-        → formed (linesOf (linesFrom i (end - i))) (chopped (linesFrom i (end - i)) (drop v values)) ≡ formed (linesOf (linesFrom (i + 1) (end - (i + 1)))) (chopped (linesFrom (i + 1) (end - (i + 1))) (drop (v + w) values))
+    pub formed-good : (p : ℕ) → r ≡ 0 → p ≡ v + width (lineNo i .kind)
+        → formed (linesOf (linesFrom i (end - i))) (chopped (linesFrom i (end - i)) (drop v values)) ≡ formed (linesOf (linesFrom (i + 1) (end - (i + 1)))) (chopped (linesFrom (i + 1) (end - (i + 1))) (drop p values))
     unfolding others
-    formed-good w z q = rest-formed ∙ rw (← e, eq-eqb r 0 z, ← q)
+    formed-good p z q = rest-formed ∙ rw (← e, eq-eqb r 0 z, ← q)
 
 pub formed-end : (values : List ℕ) (i end : ℕ) → end ≤ i → true ≡ formed (linesOf (linesFrom i (end - i))) (chopped (linesFrom i (end - i)) values)
 unfolding formed linesOf
@@ -227,10 +225,6 @@ unfolding digitsOf
 digits-none p k x b e = rw e (placed-nothing p b)
 
 -- ---- the closing
-
-pub closingFor-is : (m : List ℕ) (i : Integrity) (before : List ℕ) → closingBytes m i before ≡ closingFor m (integrityValues i) before
-unfolding closingBytes closingFor summedBytes
-closingFor-is m i before = refl
 
 -- the lines of the code's closing
 integrity-is : linesFrom 16 5 ≡ integrityLines

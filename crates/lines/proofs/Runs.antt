@@ -1,8 +1,8 @@
 -- What the reader's runs need of the definitions: a stretch of fields in two parts, a line's fields, lines of the table.
 --     lf-.. mark-judged               LF and mark
---     part-label part-value part-end  the fields of a line by number
+--     taken-.. field-..               a field read; the fields of a line by number
 --     opened-size line-size ..        the bytes of a line
---     run-stop run-fits run-go        a stretch in two parts: the first has a fault; it has none
+--     takes-..                        a stretch read in two parts: the first has a fault; it has none
 --     opened-.. line-.. lines-..      the same of a line up to its LF, of a line, of lines of the table
 -- Assumes nothing.
 use Prim.Native.Nat.{ℕ, suc, _+_, _-_, _≤_, _<_}
@@ -18,10 +18,12 @@ use Rattle.metafile.specs.Lines.{Field, fixed, value, Line, lf, opened, linesOf
 use Rattle.table.specs.declared.Line.{Line as CodeLine}
 use Rattle.table.specs.Codes.{lineNo, codeNo, linesFrom}
 use Rattle.table.proofs.Lines.{label-fits, label-long, width-is, width-small}
-use Rattle.laws.proofs.First.{⊳-stop, ⊳-go, ⊳-none}
-use Rattle.laws.proofs.Table.{field-long, run-split, run-enough}
+use Rattle.laws.proofs.First.{⊳-stop, ⊳-go}
+use Rattle.laws.proofs.Stages.{run-one as run-field}
+use Rattle.laws.proofs.Table.{field-long, run-split, run-enough, size-split}
 use Rattle.laws.proofs.Loops.{fixed-short, fixed-bad, fixed-good, part-drop}
-use Rattle.lines.specs.Parts.{fieldNo}
+use Rattle.lines.specs.declared.reader.Taken.{Taken}
+use Rattle.lines.specs.Parts.{fieldNo, Takes}
 
 -- ---- LF and mark
 
@@ -56,22 +58,58 @@ unfolding fault fixedFault starts
 mark-judged m s at r b h e q =
     e ∙ rw (q, part-drop s at) (sym (field-long (length m) (fixedFault m) (drop at s) (simp length-drop h)))
 
+-- ---- fields read
+
+pub run-one : (f : Field) (x : List ℕ) → fault f x ≡ run (f ∷ []) x
+run-one f x = sym (run-field f x)
+
+pub size-one : (f : Field) → size (f ∷ []) ≡ fieldWidth f
+unfolding size
+size-one f = omega arith
+
+pub taken-fault : (f : Field) (at : ℕ) (s : List ℕ) (r : Taken) → Takes (f ∷ []) at s r → r .fault ≡ fault f (drop at s)
+taken-fault f at s r e = e .first ∙ sym (run-one f (drop at s))
+
+pub taken-one : (f : Field) (at : ℕ) (s : List ℕ) (r : Taken) → r .fault ≡ fault f (drop at s) → r .at ≡ at + fieldWidth f → Takes (f ∷ []) at s r
+taken-one f at s r e w = record { first = e ∙ run-one f (drop at s); behind = omega (arith, size-one f) }
+
 -- ---- the fields of a line
 
-module _ (i p : ℕ) (x : List ℕ) where
-  pub part-label : p ≡ 0 → fault (fixed (lineNo i .label)) x ≡ fault (fieldNo i p) x
-  unfolding fieldNo opened
-  part-label e = rw e
+pub field-label : (i : ℕ) → fieldNo i 0 ≡ fixed (lineNo i .label)
+unfolding fieldNo opened
+field-label i = refl
 
-  pub part-value : p ≡ 1 → kindFault (lineNo i .kind) x ≡ fault (fieldNo i p) x
-  unfolding fieldNo opened fault
-  part-value e = rw e
+pub field-value : (i : ℕ) → fieldNo i 1 ≡ value (lineNo i .kind)
+unfolding fieldNo opened
+field-value i = refl
 
-  pub part-end : (p ≡ 0 → ⊥) → (p ≡ 1 → ⊥) → p < 3 → fault lf x ≡ fault (fieldNo i p) x
-  unfolding fieldNo opened
-  part-end a b h =
+pub field-end : (i : ℕ) → fieldNo i 2 ≡ lf
+unfolding fieldNo opened
+field-end i = refl
+
+pub value-fault : (i at : ℕ) (s : List ℕ) (r : Taken) → Takes (fieldNo i 1 ∷ []) at s r → r .fault ≡ kindFault (lineNo i .kind) (drop at s)
+unfolding fieldNo opened fault
+value-fault i at s r e = taken-fault (fieldNo i 1) at s r e
+
+pub value-wide : (i : ℕ) → size (fieldNo i 1 ∷ []) ≡ width (lineNo i .kind)
+unfolding fieldNo opened size fieldWidth
+value-wide i = omega arith
+
+-- a field of line i, as the code reads it
+module _ (i p at : ℕ) (s : List ℕ) (r : Taken) where
+  pub label-taken : p ≡ 0 → r .fault ≡ fault (fixed (lineNo i .label)) (drop at s) → r .at ≡ at + length (lineNo i .label) → Takes (fieldNo i p ∷ []) at s r
+  unfolding fieldWidth
+  label-taken e f w = rw (e, field-label i) (taken-one (fixed (lineNo i .label)) at s r f w)
+
+  pub value-taken : p ≡ 1 → r .fault ≡ kindFault (lineNo i .kind) (drop at s) → r .at ≡ at + width (lineNo i .kind) → Takes (fieldNo i p ∷ []) at s r
+  unfolding fieldWidth fault
+  value-taken e f w = rw (e, field-value i) (taken-one (value (lineNo i .kind)) at s r f w)
+
+  pub end-taken : (p ≡ 0 → ⊥) → (p ≡ 1 → ⊥) → p < 3 → r .fault ≡ fault lf (drop at s) → r .at ≡ at + 1 → Takes (fieldNo i p ∷ []) at s r
+  unfolding fieldWidth lf
+  end-taken a b h f w =
       let e : p ≡ 2 = omega arith in
-      rw e
+      rw (e, field-end i) (taken-one lf at s r f w)
 
 -- ---- the bytes of a line
 
@@ -97,61 +135,50 @@ module _ (i : ℕ) (h : i < 24) where
 
 -- ---- a stretch in two parts
 
-run-one : (f : Field) (x : List ℕ) → fault f x ≡ run (f ∷ []) x
-unfolding run
-run-one f x = sym (⊳-none (fault f x))
+module _ (a b : List Field) (s : List ℕ) (at : ℕ) (r : Taken) (e : Takes a at s r) where
+  pub takes-stop : (r .fault ≡ 0 → ⊥) → r .fault ≡ run (a ++ b) (drop at s)
+  takes-stop n = rw (run-split a b (drop at s), ← (e .first)) (sym (⊳-stop (r .fault) _ n))
 
-module _ (a b : List Field) (s : List ℕ) (at r : ℕ) (e : r ≡ run a (drop at s)) where
-  pub run-stop : (r ≡ 0 → ⊥) → r ≡ run (a ++ b) (drop at s)
-  run-stop n = rw (run-split a b (drop at s), ← e) (sym (⊳-stop r _ n))
+  pub takes-fits : at ≤ length s → r .fault ≡ 0 → r .at ≤ length s
+  takes-fits h z =
+      let k = simp length-drop at (run-enough a (drop at s) (sym (e .first) ∙ z)) in
+      omega (arith, e .behind)
 
-  pub run-fits : at ≤ length s → r ≡ 0 → at + size a ≤ length s
-  run-fits h z =
-      let k = simp length-drop at (run-enough a (drop at s) (sym e ∙ z)) in
-      omega arith
+  pub takes-go : r .fault ≡ 0 → run b (drop (r .at) s) ≡ run (a ++ b) (drop at s)
+  takes-go z = rw (run-split a b (drop at s), ← (e .first), ⊳-go (r .fault) _ z, drop-drop (size a) at s, ← (e .behind))
 
-  pub run-go : (p : ℕ) → r ≡ 0 → p ≡ at + size a → run b (drop p s) ≡ run (a ++ b) (drop at s)
-  run-go p z q = rw (run-split a b (drop at s), ← e, ⊳-go r _ z, drop-drop (size a) at s, ← q)
+  -- the second part is read behind the first
+  pub takes-both : (q : Taken) → r .fault ≡ 0 → Takes b (r .at) s q → Takes (a ++ b) at s q
+  takes-both q z f =
+      record { first = f .first ∙ takes-go z; behind = omega (arith, e .behind, f .behind, size-split a b) }
+
+  -- the first part has a fault
+  pub takes-first : (q : Taken) → (r .fault ≡ 0 → ⊥) → q .fault ≡ r .fault → q .at ≡ at + size (a ++ b) → Takes (a ++ b) at s q
+  takes-first q n f w = record { first = f ∙ takes-stop n; behind = w }
 
 -- ---- a line
 
-module _ (i : ℕ) (s : List ℕ) (at r : ℕ) where
-  label : List Field
-  label = fixed (lineNo i .label) ∷ []
+module _ (i : ℕ) (s : List ℕ) (at : ℕ) (r q : Taken) where
+  module _ (e : Takes (fieldNo i 0 ∷ []) at s r) where
+    pub opened-first : (r .fault ≡ 0 → ⊥) → q .fault ≡ r .fault → q .at ≡ at + size (opened (lineNo i)) → Takes (opened (lineNo i)) at s q
+    unfolding fieldNo opened
+    opened-first n f w = takes-first (fieldNo i 0 ∷ []) (fieldNo i 1 ∷ []) s at r e q n f w
 
-  tail : List Field
-  tail = value (lineNo i .kind) ∷ []
+    pub opened-both : r .fault ≡ 0 → Takes (fieldNo i 1 ∷ []) (r .at) s q → Takes (opened (lineNo i)) at s q
+    unfolding fieldNo opened
+    opened-both z f = takes-both (fieldNo i 0 ∷ []) (fieldNo i 1 ∷ []) s at r e q z f
 
-  module _ (e : r ≡ fault (fieldNo i 0) (drop at s)) where
-    label-run : r ≡ run label (drop at s)
-    unfolding fieldNo opened label
-    label-run = e ∙ run-one (fixed (lineNo i .label)) (drop at s)
-
-    pub opened-stop : (r ≡ 0 → ⊥) → r ≡ run (opened (lineNo i)) (drop at s)
-    unfolding opened label tail
-    opened-stop n = run-stop label tail s at r label-run n
-
-    pub opened-fits : at ≤ length s → r ≡ 0 → at + length (lineNo i .label) ≤ length s
-    opened-fits h z =
-        let k = run-fits label tail s at r label-run h z in
-        unfold label size fieldWidth in omega arith
-
-    pub opened-go : (p q : ℕ) → r ≡ 0 → p ≡ at + length (lineNo i .label) → q ≡ fault (fieldNo i 1) (drop p s) → q ≡ run (opened (lineNo i)) (drop at s)
-    unfolding opened label tail fieldNo size fieldWidth
-    opened-go p q z w f =
-        f ∙ run-one (value (lineNo i .kind)) (drop p s) ∙ run-go label tail s at r label-run p z (omega arith)
-
-  module _ (e : r ≡ run (opened (lineNo i)) (drop at s)) where
-    pub line-stop : (r ≡ 0 → ⊥) → r ≡ run (linesOf (lineNo i ∷ [])) (drop at s)
+  module _ (e : Takes (opened (lineNo i)) at s r) where
+    line-stopped : (r .fault ≡ 0 → ⊥) → q .fault ≡ r .fault → q .at ≡ at + size (linesOf (lineNo i ∷ [])) → Takes (linesOf (lineNo i ∷ [])) at s q
     unfolding linesOf
-    line-stop n = run-stop (opened (lineNo i)) (lf ∷ []) s at r e n
+    line-stopped n f w = takes-first (opened (lineNo i)) (lf ∷ []) s at r e q n f w
 
-    pub line-fits : at ≤ length s → r ≡ 0 → at + size (opened (lineNo i)) ≤ length s
-    line-fits h z = run-fits (opened (lineNo i)) (lf ∷ []) s at r e h z
+    pub line-first : i < 24 → (r .fault ≡ 0 → ⊥) → q .fault ≡ r .fault → q .at ≡ r .at + 1 → Takes (linesOf (lineNo i ∷ [])) at s q
+    line-first h n f w = line-stopped n f (omega (arith, e .behind, line-size i h))
 
-    pub line-go : (p q : ℕ) → r ≡ 0 → p ≡ at + size (opened (lineNo i)) → q ≡ fault (fieldNo i 2) (drop p s) → q ≡ run (linesOf (lineNo i ∷ [])) (drop at s)
-    unfolding linesOf fieldNo opened
-    line-go p q z w f = f ∙ run-one lf (drop p s) ∙ run-go (opened (lineNo i)) (lf ∷ []) s at r e p z w
+    pub line-both : r .fault ≡ 0 → Takes (fieldNo i 2 ∷ []) (r .at) s q → Takes (linesOf (lineNo i ∷ [])) at s q
+    unfolding fieldNo opened linesOf
+    line-both z f = takes-both (opened (lineNo i)) (lf ∷ []) s at r e q z f
 
 -- ---- lines of the table
 
@@ -182,7 +209,7 @@ module _ (s : List ℕ) (whole at i end : ℕ) (e : whole ≡ run (linesOf (line
   unfolding linesOf run
   lines-end h = sym (e ∙ rw (lines-none i end h))
 
-  module _ (h : i < end) (l : end ≤ 24) (r : ℕ) (f : r ≡ run (linesOf (lineNo i ∷ [])) (drop at s)) where
+  module _ (h : i < end) (l : end ≤ 24) (r : Taken) (f : Takes (linesOf (lineNo i ∷ [])) at s r) where
     others : List Field
     others = linesOf (linesFrom (i + 1) (end - (i + 1)))
 
@@ -190,12 +217,12 @@ module _ (s : List ℕ) (whole at i end : ℕ) (e : whole ≡ run (linesOf (line
     unfolding others
     here = rw (lines-first i end h l) (linesOf-cons (lineNo i) (linesFrom (i + 1) (end - (i + 1))))
 
-    pub lines-stop : (r ≡ 0 → ⊥) → r ≡ whole
-    lines-stop n = run-stop (linesOf (lineNo i ∷ [])) others s at r f n ∙ sym (e ∙ rw here)
+    pub lines-stop : (r .fault ≡ 0 → ⊥) → r .fault ≡ whole
+    lines-stop n = takes-stop (linesOf (lineNo i ∷ [])) others s at r f n ∙ sym (e ∙ rw here)
 
-    pub lines-fits : at ≤ length s → r ≡ 0 → at + size (linesOf (lineNo i ∷ [])) ≤ length s
-    lines-fits k z = run-fits (linesOf (lineNo i ∷ [])) others s at r f k z
+    pub lines-fits : at ≤ length s → r .fault ≡ 0 → r .at ≤ length s
+    lines-fits k z = takes-fits (linesOf (lineNo i ∷ [])) others s at r f k z
 
-    pub lines-next : (w : ℕ) → r ≡ 0 → w ≡ size (linesOf (lineNo i ∷ [])) → whole ≡ run (linesOf (linesFrom (i + 1) (end - (i + 1)))) (drop (at + w) s)
+    pub lines-next : r .fault ≡ 0 → whole ≡ run (linesOf (linesFrom (i + 1) (end - (i + 1)))) (drop (r .at) s)
     unfolding others
-    lines-next w z q = e ∙ rw here (sym (run-go (linesOf (lineNo i ∷ [])) others s at r f (at + w) z (omega arith)))
+    lines-next z = e ∙ rw here (sym (takes-go (linesOf (lineNo i ∷ [])) others s at r f z))

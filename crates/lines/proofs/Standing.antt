@@ -1,12 +1,11 @@
 -- Lines that have no fault, one by one, have none together.
 --     bytes-of                     the bytes of line i, from its row
---     Clean clean-run              n lines from a place on: no line has a fault, line by line; then they have none
+--     clean-line clean-none        a line without a fault, and the lines behind it
 --     head-spans integrity-spans   the bytes of the lines of a chunk's head, of its integrity data
---     none-at                      a line without a fault, as the code tests it
 -- Assumes nothing.
-use Prim.Native.Nat.{ℕ, zero, suc, _+_, _≤_, _<_}
+use Prim.Native.Nat.{ℕ, suc, _+_, _<_}
 use mathlib.Core.Bool.{true}
-use mathlib.Core.Path.{_≡_, refl, sym, _∙_}
+use mathlib.Core.Path.{_≡_, refl, _∙_}
 use mathlib.Core.List.{List, [], _∷_}
 use native.Mathlib.Omega.{arith}
 use borrow.Author.Tests.{eqb-true}
@@ -14,29 +13,24 @@ use lib.Dec.{eqb}
 use lib.ListN.{drop}
 use Rattle.metafile.specs.Lines.{linesOf, size, run}
 use Rattle.table.specs.Codes.{lineNo, codes, codeNo, linesFrom}
-use Rattle.lines.proofs.Runs.{opened-size, line-size, run-go, lines-one, linesOf-cons}
+use Rattle.lines.specs.declared.reader.Taken.{Taken}
+use Rattle.lines.specs.Parts.{Takes}
+use Rattle.lines.proofs.Runs.{opened-size, line-size, takes-go, lines-one, linesOf-cons}
 
 pub bytes-of : (i : ℕ) → i < 24 → size (linesOf (lineNo i ∷ [])) ≡ codeNo i .long + codeNo i .width + 1
 bytes-of i h = omega (arith, line-size i h, opened-size i h (codeNo i) refl)
 
--- n lines from line i on, the first at the place p
-unfoldable pub Clean : ℕ → ℕ → ℕ → List ℕ → Type 0
-Clean zero i p s = Unit {0}
-Clean (suc n) i p s = (run (linesOf (lineNo i ∷ [])) (drop p s) ≡ 0) × Clean n (i + 1) (p + codeNo i .long + codeNo i .width + 1) s
-
-pub clean-run : (n i p : ℕ) (s : List ℕ) → i + n ≤ 24 → Clean n i p s → 0 ≡ run (linesOf (linesFrom i n)) (drop p s)
-unfolding Clean linesOf run linesFrom
-clean-run zero i p s h g = refl
-clean-run (suc n) i p s h g =
-    let l : i < 24 = omega arith in
-    let next = clean-run n (i + 1) (p + codeNo i .long + codeNo i .width + 1) s (omega arith) (g .1) in
+-- a line that the code finds without a fault, and n lines behind it
+pub clean-line : (i n p : ℕ) (s : List ℕ) (r : Taken) → i < 24 → Takes (linesOf (lineNo i ∷ [])) p s r → eqb (r .fault) 0 ≡ true
+    → 0 ≡ run (linesOf (linesFrom (i + 1) n)) (drop (r .at) s) → 0 ≡ run (linesOf (linesFrom i (suc n))) (drop p s)
+clean-line i n p s r h e z next =
     next
-    ∙ run-go (linesOf (lineNo i ∷ [])) (linesOf (linesFrom (i + 1) n)) s p 0 (sym (g .0)) (p + codeNo i .long + codeNo i .width + 1) refl (omega (arith, bytes-of i l))
-    ∙ rw (lines-one i n l, linesOf-cons (lineNo i) (linesFrom (i + 1) n))
+    ∙ takes-go (linesOf (lineNo i ∷ [])) (linesOf (linesFrom (i + 1) n)) s p r e (eqb-true (r .fault) 0 z)
+    ∙ rw (lines-one i n h, linesOf-cons (lineNo i) (linesFrom (i + 1) n))
 
--- a line without a fault, as the code tests it
-pub none-at : (i p q r : ℕ) (s : List ℕ) → r ≡ run (linesOf (lineNo i ∷ [])) (drop p s) → eqb r 0 ≡ true → p ≡ q → run (linesOf (lineNo i ∷ [])) (drop q s) ≡ 0
-none-at i p q r s e z w = rw (← w) (sym e ∙ eqb-true r 0 z)
+pub clean-none : (i p : ℕ) (s : List ℕ) → 0 ≡ run (linesOf (linesFrom i 0)) (drop p s)
+unfolding linesFrom linesOf run
+clean-none i p s = refl
 
 pub head-spans : (size (linesOf (lineNo 0 ∷ [])) ≡ 33) × (size (linesOf (lineNo 1 ∷ [])) ≡ 270) × (size (linesOf (lineNo 2 ∷ [])) ≡ 17) × (size (linesOf (lineNo 3 ∷ [])) ≡ 26) × (size (linesOf (lineNo 4 ∷ [])) ≡ 62) × (size (linesOf (lineNo 5 ∷ [])) ≡ 35) × (size (linesOf (lineNo 6 ∷ [])) ≡ 60) × (size (linesOf (lineNo 7 ∷ [])) ≡ 37)
 unfolding codes codeNo

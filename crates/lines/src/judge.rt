@@ -10,7 +10,9 @@ ghost use Rattle.table.specs.Codes.{lineNo};
 ghost use Rattle.lines.specs.Words.{wordNo};
 use crate::words;
 use crate::words::is_word;
+use metafile::refusals;
 use table::Kind;
+use table::places;
 
 // No fault where the test holds, else this number.
 pub fn verdict(good: bool, number: u8) -> u8
@@ -27,9 +29,9 @@ pub fn number_fault(s: &[u8], at: usize, n: usize) -> u8
     ensures { λ r. ⌜ r ≡ fieldFault n (countFault (10 ^ n - 1)) (drop at (now (s .entry))) ⌝ }
 {
     if s.len() - at < n {
-        return 4;
+        return refusals::SHORT;
     }
-    verdict(fields::is_count(&s[at..at + n]), 6)
+    verdict(fields::is_count(&s[at..at + n]), refusals::FORM)
 }
 
 // n digits that come to at most so much
@@ -38,10 +40,13 @@ pub fn count_fault(s: &[u8], at: usize, n: usize, most: u64) -> u8
     ensures { λ r. ⌜ r ≡ fieldFault n (countFault most) (drop at (now (s .entry))) ⌝ }
 {
     if s.len() - at < n {
-        return 4;
+        return refusals::SHORT;
     }
     let v = &s[at..at + n];
-    verdict(fields::is_count(v) & (fields::count_value(v) <= most), 6)
+    verdict(
+        fields::is_count(v) & (fields::count_value(v) <= most),
+        refusals::FORM,
+    )
 }
 
 pub fn text_fault(s: &[u8], at: usize, n: usize) -> u8
@@ -49,40 +54,43 @@ pub fn text_fault(s: &[u8], at: usize, n: usize) -> u8
     ensures { λ r. ⌜ r ≡ fieldFault n textFault (drop at (now (s .entry))) ⌝ }
 {
     if s.len() - at < n {
-        return 4;
+        return refusals::SHORT;
     }
-    verdict(fields::is_text(&s[at..at + n]), 6)
+    verdict(fields::is_text(&s[at..at + n]), refusals::FORM)
 }
 
 pub fn date_fault(s: &[u8], at: usize) -> u8
     requires { ⌜ at ≤ length (now s) ⌝ }
     ensures { λ r. ⌜ r ≡ fieldFault 8 dateFault (drop at (now (s .entry))) ⌝ }
 {
-    if s.len() - at < 8 {
-        return 4;
+    if s.len() - at < places::DATE {
+        return refusals::SHORT;
     }
-    verdict(fields::is_date(&s[at..at + 8]), 6)
+    verdict(fields::is_date(&s[at..at + places::DATE]), refusals::FORM)
 }
 
 pub fn offset_fault(s: &[u8], at: usize) -> u8
     requires { ⌜ at ≤ length (now s) ⌝ }
     ensures { λ r. ⌜ r ≡ fieldFault 16 offsetFault (drop at (now (s .entry))) ⌝ }
 {
-    if s.len() - at < 16 {
-        return 4;
+    if s.len() - at < places::OFFSET {
+        return refusals::SHORT;
     }
-    verdict(fields::is_offset(&s[at..at + 16]), 6)
+    verdict(
+        fields::is_offset(&s[at..at + places::OFFSET]),
+        refusals::FORM,
+    )
 }
 
 pub fn serial_fault(s: &[u8], at: usize) -> u8
     requires { ⌜ at ≤ length (now s) ⌝ }
     ensures { λ r. ⌜ r ≡ fieldFault 38 serialFault (drop at (now (s .entry))) ⌝ }
 {
-    if s.len() - at < 38 {
-        return 4;
+    if s.len() - at < places::SERIAL {
+        return refusals::SHORT;
     }
-    let serial = fields::serial_from(&s[at..at + 38]);
-    verdict(fields::is_serial(serial), 6)
+    let serial = fields::serial_from(&s[at..at + places::SERIAL]);
+    verdict(fields::is_serial(serial), refusals::FORM)
 }
 
 // n bytes of any value
@@ -91,7 +99,7 @@ fn free_fault(s: &[u8], at: usize, n: usize) -> u8
     ensures { λ r. ⌜ r ≡ fieldFault n freeFault (drop at (now (s .entry))) ⌝ }
 {
     if s.len() - at < n {
-        return 4;
+        return refusals::SHORT;
     }
     0
 }
@@ -101,10 +109,10 @@ pub fn word_fault(s: &[u8], at: usize, a: usize, b: usize) -> u8
     requires { ⌜ (at ≤ length (now s)) × (a < 10) × (b < 10) ⌝ }
     ensures { λ r. ⌜ r ≡ fieldFault 3 (wordFault (wordNo a ∷ wordNo b ∷ [])) (drop at (now (s .entry))) ⌝ }
 {
-    if s.len() - at < 3 {
-        return 4;
+    if s.len() - at < places::WORD {
+        return refusals::SHORT;
     }
-    verdict(is_word(s, at, a) | is_word(s, at, b), 5)
+    verdict(is_word(s, at, a) | is_word(s, at, b), refusals::DIFFERS)
 }
 
 // ---- two fields
@@ -118,7 +126,7 @@ fn strategy_fault(s: &[u8], at: usize) -> u8
     if word != 0 {
         return word;
     }
-    count_fault(s, at + 3, 3, 999)
+    count_fault(s, at + places::WORD, places::MARK_DIGITS, 999)
 }
 
 // UTC, NUL or ALT, then 38 bytes: a serial number after ALT
@@ -126,16 +134,16 @@ pub fn standard_fault(s: &[u8], at: usize) -> u8
     requires { ⌜ at ≤ length (now s) ⌝ }
     ensures { λ r. ⌜ r ≡ kindFault (timeStandard .kind) (drop at (now (s .entry))) ⌝ }
 {
-    if s.len() - at < 3 {
-        return 4;
+    if s.len() - at < places::WORD {
+        return refusals::SHORT;
     }
     if is_word(s, at, words::ALT) {
-        return serial_fault(s, at + 3);
+        return serial_fault(s, at + places::WORD);
     }
     if is_word(s, at, words::UTC) | is_word(s, at, words::NUL) {
-        return free_fault(s, at + 3, 38);
+        return free_fault(s, at + places::WORD, places::SERIAL);
     }
-    5
+    refusals::DIFFERS
 }
 
 // NUL, SLV or MAS, then 38 bytes: a serial number after SLV and MAS
@@ -143,16 +151,16 @@ pub fn event_fault(s: &[u8], at: usize) -> u8
     requires { ⌜ at ≤ length (now s) ⌝ }
     ensures { λ r. ⌜ r ≡ kindFault (eventSynch .kind) (drop at (now (s .entry))) ⌝ }
 {
-    if s.len() - at < 3 {
-        return 4;
+    if s.len() - at < places::WORD {
+        return refusals::SHORT;
     }
     if is_word(s, at, words::SLV) | is_word(s, at, words::MAS) {
-        return serial_fault(s, at + 3);
+        return serial_fault(s, at + places::WORD);
     }
     if is_word(s, at, words::NUL) {
-        return free_fault(s, at + 3, 38);
+        return free_fault(s, at + places::WORD, places::SERIAL);
     }
-    5
+    refusals::DIFFERS
 }
 
 // ---- the value of line i at a place

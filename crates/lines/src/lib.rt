@@ -5,8 +5,8 @@
 //     words    the listed words, and the label of a mini-chunk
 //     judge    the fault of a line's value, by its kind
 //     reader   the field reader: a file and a position in it
-//     run      the reader's runs: lines, LF, mark
-//     stretches  the runs over a chunk's head, its content length and its integrity data
+//     run      the reader's runs: a line up to its LF, a line, lines
+//     stretches  the runs over a chunk's head and its integrity data
 //     write    the writer's runs: values judged, lines, bytes, numbers and the closing put into a buffer
 mod judge;
 pub mod reader;
@@ -15,22 +15,16 @@ mod stretches;
 pub mod words;
 mod write;
 
-pub use judge::value_fault;
 pub use reader::Reader;
-pub use reader::lf_fault;
+pub use reader::Taken;
 pub use reader::read_field;
-pub use run::line_bytes;
-pub use run::line_fault;
+pub use reader::read_fixed;
 pub use run::lines_fault;
-pub use run::mark_fault;
-pub use run::opened_bytes;
-pub use run::opened_fault;
-pub use stretches::content_length_fault;
+pub use run::read_line;
+pub use run::read_opened;
 pub use stretches::dependency_count_fault;
 pub use stretches::head_lines_fault;
 pub use stretches::integrity_fault;
-pub use stretches::length_fault;
-pub use stretches::short_id_fault;
 pub use words::begins_mini;
 pub use words::is_word;
 pub use write::put_bytes;

@@ -1,14 +1,15 @@
-// The reader's runs: "Fields are read in file order", the first fault counts. Each field of a line is read by
-// `read_field`.
+// The reader's runs: "Fields are read in file order", the first fault counts. Each field is read by `read_field`,
+// at the position that the field before it gave.
 ghost use mathlib.Core.Path.{_≡_};
 ghost use mathlib.Core.List.{[], _∷_};
 ghost use Prim.Native.Nat.{_+_, _≤_, _<_};
 ghost use lib.ListN.{length, drop};
-ghost use Rattle.metafile.specs.Lines.{fixed, opened, linesOf, fault, size, run};
+ghost use Rattle.metafile.specs.Lines.{opened, linesOf, size, run};
 ghost use Rattle.table.specs.Codes.{lineNo, linesFrom};
-use crate::judge::verdict;
+ghost use Rattle.lines.specs.Parts.{Takes};
 use crate::reader::END;
 use crate::reader::LABEL;
+use crate::reader::Taken;
 use crate::reader::VALUE;
 use crate::reader::read_field;
 
@@ -21,36 +22,34 @@ pub fn opened_bytes(i: usize) -> usize
     line.long as usize + line.width as usize
 }
 
-pub fn line_bytes(i: usize) -> usize
-    requires { ⌜ i < 24 ⌝ }
-    ensures { λ r. ⌜ r ≡ size (linesOf (lineNo i ∷ [])) ⌝ }
-{
-    opened_bytes(i) + 1
-}
-
 // Line i up to its LF.
-pub fn opened_fault(s: &[u8], at: usize, i: usize) -> u8
+pub fn read_opened(s: &[u8], at: usize, i: usize) -> Taken
     requires { ⌜ (at ≤ length (now s)) × (i < 24) ⌝ }
-    ensures { λ r. ⌜ r ≡ run (opened (lineNo i)) (drop at (now (s .entry))) ⌝ }
+    ensures { λ r. ⌜ Takes (opened (lineNo i)) at (now (s .entry)) r ⌝ }
 {
     let label = read_field(s, at, i, LABEL);
-    if label != 0 {
-        return label;
+    if label.fault != 0 {
+        return Taken {
+            fault: label.fault,
+            at: at + opened_bytes(i),
+        };
     }
-    let line = table::line_at(i);
-    let long = line.long as usize;
-    read_field(s, at + long, i, VALUE)
+    read_field(s, label.at, i, VALUE)
 }
 
-pub fn line_fault(s: &[u8], at: usize, i: usize) -> u8
+// Line i.
+pub fn read_line(s: &[u8], at: usize, i: usize) -> Taken
     requires { ⌜ (at ≤ length (now s)) × (i < 24) ⌝ }
-    ensures { λ r. ⌜ r ≡ run (linesOf (lineNo i ∷ [])) (drop at (now (s .entry))) ⌝ }
+    ensures { λ r. ⌜ Takes (linesOf (lineNo i ∷ [])) at (now (s .entry)) r ⌝ }
 {
-    let line = opened_fault(s, at, i);
-    if line != 0 {
-        return line;
+    let line = read_opened(s, at, i);
+    if line.fault != 0 {
+        return Taken {
+            fault: line.fault,
+            at: line.at + 1,
+        };
     }
-    read_field(s, at + opened_bytes(i), i, END)
+    read_field(s, line.at, i, END)
 }
 
 // n lines from the first on.
@@ -62,22 +61,12 @@ pub fn lines_fault(s: &[u8], at: usize, first: usize, n: usize) -> u8
     let mut p = at;
     let mut i = first;
     while i < end {
-        let line = line_fault(s, p, i);
-        if line != 0 {
-            return line;
+        let line = read_line(s, p, i);
+        if line.fault != 0 {
+            return line.fault;
         }
-        p += line_bytes(i);
+        p = line.at;
         i += 1;
     }
     0
-}
-
-pub fn mark_fault(s: &[u8], at: usize, mark: &[u8]) -> u8
-    requires { ⌜ at ≤ length (now s) ⌝ }
-    ensures { λ r. ⌜ r ≡ fault (fixed (now (mark .entry))) (drop at (now (s .entry))) ⌝ }
-{
-    if s.len() - at < mark.len() {
-        return 4;
-    }
-    verdict(search::begins(mark, &s[at..]), 5)
 }

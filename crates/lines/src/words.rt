@@ -5,6 +5,7 @@ ghost use lib.ListN.{length};
 ghost use Rattle.metafile.specs.Bytes.{part, same, starts};
 ghost use Rattle.metafile.specs.Multi.{miniLabel};
 ghost use Rattle.lines.specs.Words.{wordNo};
+use table::places;
 
 const WORDS: [u8; 30] = *b"LLCNULBINTXTGENSPEUTCALTSLVMAS";
 
@@ -35,16 +36,16 @@ pub fn is_word(s: &[u8], at: usize, w: usize) -> bool
     ensures { λ r. ⌜ r ≡ same (part at 3 (now (s .entry))) (wordNo w) ⌝ }
 {
     let words = WORDS;
-    let from = w * 3;
-    search::same_bytes(&s[at..at + 3], &words[from..from + 3])
+    let from = w * places::WORD;
+    search::same_bytes(&s[at..at + places::WORD], &words[from..from + places::WORD])
 }
 
 // The bytes begin "MiniChunk=".
 pub fn begins_mini(s: &[u8]) -> bool
     ensures { λ r. ⌜ r ≡ starts miniLabel (now (s .entry)) ⌝ }
 {
-    if s.len() < 10 {
+    if s.len() < places::MINI_ID {
         return false;
     }
-    search::same_bytes(&s[..10], b"MiniChunk=")
+    search::same_bytes(&s[..places::MINI_ID], b"MiniChunk=")
 }

@@ -14,11 +14,11 @@ ghost use Rattle.table.specs.Codes.{lineNo, linesFrom};
 ghost use Rattle.lines.specs.Values.{chopped, valuesSize, closingFor};
 use crate::reader::VALUE;
 use crate::reader::read_field;
+use table::numbers;
+use table::places;
 
-// The numbers of the first of the five lines before the sum's, and of the sum's.
-const INTEGRITY: usize = 16;
-
-const CHECKSUM: usize = 21;
+// The lines of the integrity data before the sum's.
+const BEFORE_SUM: usize = numbers::CHECKSUM - numbers::CHUNK_SERIAL;
 
 fn value_bytes(i: usize) -> usize
     requires { ⌜ i < 24 ⌝ }
@@ -37,10 +37,11 @@ pub fn values_formed(first: usize, n: usize, values: &[u8]) -> bool
     let mut v: usize = 0;
     let mut i = first;
     while i < end {
-        if read_field(values, v, i, VALUE) != 0 {
+        let value = read_field(values, v, i, VALUE);
+        if value.fault != 0 {
             return false;
         }
-        v += value_bytes(i);
+        v = value.at;
         i += 1;
     }
     true
@@ -106,10 +107,10 @@ pub fn put_closing(buffer: &mut [u8], from: usize, at: usize, mark: &[u8], value
     ensures { λ r. ⌜ (r ≡ at + length (now (mark .entry)) + 254 + length (now (mark .entry))) × (now (buffer .exit) ≡ placed at (closingFor (now (mark .entry)) (chopped integrityLines (now (values .entry))) (part from (at - from) (now (buffer .entry)))) (now (buffer .entry))) ⌝ }
 {
     let lines = put_bytes(buffer, at, mark);
-    let label = put_lines(buffer, lines, INTEGRITY, 5, values);
-    let digits = table::put_label(buffer, label, CHECKSUM);
+    let label = put_lines(buffer, lines, numbers::CHUNK_SERIAL, BEFORE_SUM, values);
+    let digits = table::put_label(buffer, label, numbers::CHECKSUM);
     let sum = sums::byte_sum(&buffer[from..digits]);
-    let end = put_number(buffer, digits, 3, sum as u64);
+    let end = put_number(buffer, digits, places::SUM, sum as u64);
     buffer[end] = 10;
     put_bytes(buffer, end + 1, mark)
 }

@@ -6,7 +6,8 @@ use native.Mathlib.Omega.{arith}
 use lib.ListN.{length}
 use Rattle.listing_text.specs.declared.ListingAnswer.{ListingAnswer}
 use Rattle.listing_text.specs.declared.ListingAnswer.the-variants.{Written, Refused}
-use Rattle.listing_text.specs.Text.{outcome, listingAnswer, listingOutcome}
+use Rattle.metafile.specs.Answers.{outcome}
+use Rattle.listing_text.specs.Text.{listingAnswer, listingOutcome}
 use Rattle.listing_text.proofs.Answers.{written-fits}
 use Rattle.listing_io.specs.Length.{lengthOf}
 

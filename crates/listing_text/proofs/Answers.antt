@@ -4,35 +4,23 @@ use mathlib.Core.Path.{_≡_, refl, sym, ap, _∙_}
 use mathlib.Core.List.{List, [], _∷_}
 use native.Mathlib.Omega.{arith}
 use lib.Dec.{ltb}
-use lib.ListN.{length, take, drop}
-use lib.Seq.{take-append-seam}
+use lib.ListN.{length, take}
 use borrow.Author.Tests.{ltb-false, lt-ltb, le-ltb}
-use Rattle.metafile.specs.Answers.{Answer, result, refused, Test, refuse, firstRefusal, overLimit, Outcome, placed, unlessRefused}
+use Rattle.metafile.specs.Answers.{Answer, result, refused, Test, refuse, firstRefusal, overLimit, Outcome, outcome, placed, unlessRefused}
 use Rattle.metafile.specs.Listing.{listing}
-use Rattle.laws.proofs.First.{test, choose-go, choose-stop}
-use Rattle.laws.proofs.Accepted.{refusal-first, refusal-next}
-use Rattle.read.proofs.Laws.{limit-over, limit-under}
+use Rattle.laws.proofs.First.{test}
+use Rattle.laws.proofs.Loops.{placed-start}
+use Rattle.laws.proofs.Accepted.{refusal-first, refusal-next, tests-end, limit-over, limit-under}
 use Rattle.listing_text.specs.declared.ListingAnswer.the-variants.{Written, Refused}
-use Rattle.listing_text.specs.Text.{Put, outcome, listingAnswer, listingOutcome}
-
-refused-with : (ts : List Test) (buffer : List ℕ) (done : Outcome) (n : ℕ) → firstRefusal ts ≡ suc n → outcome (refused (suc n)) buffer ≡ unlessRefused ts buffer done
-unfolding unlessRefused
-refused-with ts buffer done n e = sym (choose-stop (firstRefusal ts) _ _ (λ z. omega arith) ∙ ap (λ (k : ℕ). outcome (refused k) buffer) e)
-
-accepted : (ts : List Test) (buffer : List ℕ) (done : Outcome) → firstRefusal ts ≡ 0 → done ≡ unlessRefused ts buffer done
-unfolding unlessRefused
-accepted ts buffer done e = sym (choose-go (firstRefusal ts) _ _ e)
-
-tests-end : firstRefusal [] ≡ 0
-unfolding firstRefusal
-tests-end = refl
+use Rattle.text.specs.Put.{Put}
+use Rattle.listing_text.specs.Text.{listingAnswer, listingOutcome}
+use Rattle.laws.proofs.Outcomes.{outcome-refused, outcome-done}
 
 -- the text alone is taken from the local array
 text-is : {v b t : List ℕ} {n : ℕ} → Put v 0 b n t → take n t ≡ v
-unfolding placed
 text-is {v} {b} {t} {n} p =
     let e : n ≡ length v = omega (arith, p .end-is) in
-    rw (p .bytes-are, e) (take-append-seam v (drop (0 + length v) b))
+    rw (p .bytes-are, e) (placed-start v b)
 
 pub text-long : {v b t : List ℕ} {n : ℕ} → Put v 0 b n t → n ≡ length (take n t)
 text-long {v} {b} {t} {n} p = omega (arith, p .end-is, ap length (text-is p))
@@ -40,15 +28,14 @@ text-long {v} {b} {t} {n} p = omega (arith, p .end-is, ap length (text-is p))
 module _ (input buffer : List ℕ) where
   pub listing-11 : 1073741824 < length buffer → outcome (listingAnswer (Refused 11)) buffer ≡ listingOutcome input buffer
   unfolding listingOutcome listingAnswer
-  listing-11 h = refused-with _ buffer _ 10 (refusal-first 11 _ _ (limit-over (length buffer) h))
+  listing-11 h = outcome-refused _ buffer _ 11 (sym (refusal-first 11 _ _ (limit-over (length buffer) [] h))) (λ z. omega arith)
 
   module _ (under : length buffer ≤ 1073741824) (b t : List ℕ) (n : ℕ) (p : Put (listing input) 0 b n t) where
     pub listing-18 : length buffer < n → outcome (listingAnswer (Refused 18)) buffer ≡ listingOutcome input buffer
     unfolding listingOutcome listingAnswer
     listing-18 h =
         let short : length buffer < length (listing input) = omega (arith, p .end-is) in
-        refused-with _ buffer _ 17
-        (refusal-next 11 _ _ (limit-under (length buffer) under) ∙ refusal-first 18 _ [] (lt-ltb _ _ short))
+        outcome-refused _ buffer _ 18 (sym (refusal-next 11 _ _ (limit-under (length buffer) under) ∙ refusal-first 18 _ [] (lt-ltb _ _ short))) (λ z. omega arith)
 
     pub listing-written : n ≤ length buffer → (last : List ℕ) → last ≡ placed 0 (take n t) buffer → outcome (listingAnswer (Written n)) last ≡ listingOutcome input buffer
     unfolding listingOutcome listingAnswer
@@ -56,7 +43,7 @@ module _ (input buffer : List ℕ) where
         let n-is : n ≡ length (listing input) = omega (arith, p .end-is) in
         let fits : length (listing input) ≤ length buffer = omega arith in
         rw (e, text-is p, n-is)
-        (accepted _ buffer _ (refusal-next 11 _ _ (limit-under (length buffer) under) ∙ refusal-next 18 _ [] (le-ltb _ _ fits) ∙ tests-end))
+        (outcome-done _ buffer _ (refusal-next 11 _ _ (limit-under (length buffer) under) ∙ refusal-next 18 _ [] (le-ltb _ _ fits) ∙ tests-end))
 
 -- a text that is written lies inside the buffer
 answer-is : {a b : Answer} {x y : List ℕ} → outcome a x ≡ outcome b y → a ≡ b
@@ -72,9 +59,9 @@ pub written-fits : (input buffer last : List ℕ) (n : ℕ) → outcome (listing
 unfolding listingOutcome listingAnswer
 written-fits input buffer last n e =
     test (overLimit (length buffer ∷ []))
-    (λ q. refused-not (answer-is (e ∙ sym (refused-with _ buffer _ 10 (refusal-first 11 _ _ q)))))
+    (λ q. refused-not (answer-is (e ∙ sym (outcome-refused _ buffer _ 11 (sym (refusal-first 11 _ _ q)) (λ z. omega arith)))))
     (λ q. test (ltb (length buffer) (length (listing input)))
-    (λ k. refused-not (answer-is (e ∙ sym (refused-with _ buffer _ 17 (refusal-next 11 _ _ q ∙ refusal-first 18 _ [] k)))))
+    (λ k. refused-not (answer-is (e ∙ sym (outcome-refused _ buffer _ 18 (sym (refusal-next 11 _ _ q ∙ refusal-first 18 _ [] k)) (λ z. omega arith)))))
     (λ k.
-    let n-is : n ≡ length (listing input) = result-is (answer-is (e ∙ sym (accepted _ buffer _ (refusal-next 11 _ _ q ∙ refusal-next 18 _ [] k ∙ tests-end)))) in
+    let n-is : n ≡ length (listing input) = result-is (answer-is (e ∙ sym (outcome-done _ buffer _ (refusal-next 11 _ _ q ∙ refusal-next 18 _ [] k ∙ tests-end)))) in
     omega (arith, ltb-false (length buffer) (length (listing input)) k)))

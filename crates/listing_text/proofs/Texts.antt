@@ -1,127 +1,28 @@
--- Bytes put one behind the other, and the text of the listing by its pieces ("The desk's slip").
---     put-none put-behind put-word     nothing, pieces in a row, a word with the byte behind it
---     digit-skip digit-stop digit-last leading zeros are passed over, but not the last digit
---     decimal-few                      a number has at most 20 digits
---     number-is numbers-are row-is end-line head-is   the pieces of a line
---     rows-none rows-more              the lines of the rows, one row on
---     listed-is                        the whole text
+-- The text of the listing by its pieces ("The desk's slip").
+--     numbers-are row-is end-line head-is   the pieces of a line
+--     rows-none rows-more                   the lines of the rows, one row on
+--     listed-is                             the whole text of a table
+--     listing-short listing-long            the text of a file, of one over 65,536 bytes
 -- Assumes nothing.
-use Prim.Native.Nat.{ℕ, zero, suc, _+_, _-_, _≤_, _<_}
-use mathlib.Core.Bool.{Bool, true, false, cond}
-use mathlib.Core.Path.{_≡_, refl, sym, ap, subst, _∙_}
+use Prim.Native.Nat.{ℕ, suc, _+_, _≤_, _<_}
+use mathlib.Core.Bool.{Bool}
+use mathlib.Core.Path.{_≡_, refl, sym, ap, _∙_}
 use mathlib.Core.List.{List, [], _∷_, _++_, append-assoc, append-nil}
 use native.Mathlib.Numerals.{add-one}
 use native.Mathlib.Omega.{arith}
-use lib.Dec.{eqb}
-use lib.ListN.{length, take, drop, getD, set, length-append, length-take, length-drop, drop-of-length-le}
-use lib.Seq.{drop-drop, getD-drop, take-suc, length-take-le}
-use borrow.Author.Tests.{eq-eqb, ne-eqb}
+use lib.ListN.{length, take, getD, replicate}
+use lib.Seq.{take-suc, length-take-le}
+use borrow.Author.Tests.{lt-ltb, le-ltb}
 use Rattle.metafile.specs.declared.Row.{Row}
 use Rattle.metafile.specs.declared.ReadAnswer.{ReadAnswer}
 use Rattle.metafile.specs.Bytes.{bytes}
-use Rattle.metafile.specs.Fields.{digitsOf}
-use Rattle.metafile.specs.Answers.{placed}
-use Rattle.metafile.specs.Listing.{unpadded, decimal, lineOf, goodOrBad, rowLine, rowLines, endLine, listed}
-use Rattle.laws.proofs.First.{test}
-use Rattle.laws.proofs.Digits.{length-digitsOf}
-use Rattle.laws.proofs.Loops.{part-drop, placed-length, placed-nothing}
-use Rattle.lines.proofs.Puts.{placed-next, placed-byte}
-use Rattle.listing_text.specs.Text.{Put, numbers, headLines, tableReading}
-
--- ---- bytes put one behind the other
-
-pub put-none : (at : ℕ) (b : List ℕ) → at ≤ length b → Put [] at b at b
-put-none at b h = record { end-is = omega arith; fits = h; bytes-are = sym (placed-nothing at b) }
-
-pub put-length : {v b c : List ℕ} {at r : ℕ} → Put v at b r c → length c ≡ length b
-put-length {v} {b} {c} {at} {r} p = ap length (p .bytes-are) ∙ placed-length at v b (omega (arith, p .end-is, p .fits))
-
-pub put-behind : {v w b c d : List ℕ} {at r s : ℕ} → Put v at b r c → Put w r c s d → Put (v ++ w) at b s d
-put-behind {v} {w} {b} {c} {d} {at} {r} {s} p q =
-    let long = put-length p in
-    record {
-      end-is = simp length-append (omega (arith, p .end-is, q .end-is));
-      fits = omega (arith, q .fits);
-      bytes-are = placed-next at r v w b c d (p .bytes-are) (p .end-is) (omega (arith, q .fits, q .end-is)) (q .bytes-are);
-    }
-
-pub put-is : {v w b c : List ℕ} {at r : ℕ} → v ≡ w → Put v at b r c → Put w at b r c
-put-is {b = b} {c = c} {at = at} {r = r} e p = subst (λ (x : List ℕ). Put x at b r c) e p
-
-put-bytes : {v b c : List ℕ} {at r : ℕ} → at + length v ≤ length b → r ≡ at + length v → c ≡ placed at v b → Put v at b r c
-put-bytes h e q = record { end-is = e; fits = omega arith; bytes-are = q }
-
-put-byte : (r x : ℕ) (c : List ℕ) → r < length c → Put (x ∷ []) r c (r + 1) (set c r x)
-put-byte r x c h = record { end-is = refl; fits = omega arith; bytes-are = placed-byte r x c h }
-
-pub put-word : (w b c : List ℕ) (at r x : ℕ) → at + length w + 1 ≤ length b → r ≡ at + length w → c ≡ placed at w b → Put (w ++ x ∷ []) at b (r + 1) (set c r x)
-put-word w b c at r x h e q =
-    let p : Put w at b r c = put-bytes (omega arith) e q in
-    let long = put-length p in
-    put-behind p (put-byte r x c (omega arith))
-
--- ---- numbers without leading zeros
-
-skips : (t : List ℕ) → 1 < length t → getD t 0 0 ≡ 48 → unpadded t ≡ unpadded (drop 1 t)
-unfolding unpadded
-skips [] h e = absurd (omega arith)
-skips (x ∷ []) h e = absurd (omega arith)
-skips (x ∷ y ∷ ys) h e = rw (eq-eqb x 48 e)
-
-stops : (t : List ℕ) → 1 < length t → (getD t 0 0 ≡ 48 → ⊥) → t ≡ unpadded t
-unfolding unpadded
-stops [] h e = absurd (omega arith)
-stops (x ∷ []) h e = absurd (omega arith)
-stops (x ∷ y ∷ ys) h e = rw (ne-eqb x 48 e)
-
-short : (t : List ℕ) → length t ≤ 1 → t ≡ unpadded t
-unfolding unpadded
-short [] h = refl
-short (x ∷ []) h = refl
-short (x ∷ y ∷ ys) h = absurd (omega arith)
-
-module _ (s : List ℕ) (k : ℕ) where
-  first-is : getD (drop k s) 0 0 ≡ getD s k 0
-  first-is = getD-drop k s 0 0 ∙ ap (λ (i : ℕ). getD s i 0) (omega arith)
-
-  pub digit-skip : k + 1 < length s → getD s k 0 ≡ 48 → unpadded (drop k s) ≡ unpadded s → unpadded (drop (k + 1) s) ≡ unpadded s
-  digit-skip h e q = rw (← drop-drop 1 k s) (sym (skips (drop k s) (simp length-drop (omega arith)) (first-is ∙ e)) ∙ q)
-
-  pub digit-stop : k + 1 < length s → (getD s k 0 ≡ 48 → ⊥) → unpadded (drop k s) ≡ unpadded s → drop k s ≡ unpadded s
-  digit-stop h e q = stops (drop k s) (simp length-drop (omega arith)) (λ z. e (sym first-is ∙ z)) ∙ q
-
-  pub digit-last : length s ≤ k + 1 → unpadded (drop k s) ≡ unpadded s → drop k s ≡ unpadded s
-  digit-last h q = short (drop k s) (simp length-drop (omega arith)) ∙ q
-
-unpadded-few : (v : List ℕ) → length (unpadded v) ≤ length v
-unfolding unpadded
-unpadded-few [] = omega arith
-unpadded-few (x ∷ []) = omega arith
-unpadded-few (x ∷ y ∷ ys) = let h = unpadded-few (y ∷ ys) in test (eqb x 48) (λ q. rw q (omega arith)) (λ q. rw q (omega arith))
-
-pub decimal-few : (x : ℕ) → length (decimal x) ≤ 20
-unfolding decimal
-decimal-few x = omega (arith, unpadded-few (digitsOf 20 x), length-digitsOf 20 x)
-
--- the digits that are left, as a part of an array of 20
-module _ (x : ℕ) (t z : List ℕ) (k : ℕ) (long : length z ≡ 20) (is : t ≡ placed 0 (digitsOf 20 x) z) (e : drop k t ≡ unpadded t) where
-  digits-are : t ≡ digitsOf 20 x
-  unfolding placed
-  digits-are =
-      let none : drop (0 + length (digitsOf 20 x)) z ≡ [] = drop-of-length-le z {i = 0 + length (digitsOf 20 x)} (omega (arith, length-digitsOf 20 x)) in
-      is ∙ rw (none, append-nil)
-
-  pub number-is : (w : ℕ) → take (20 - k) (drop k t) ++ w ∷ [] ≡ decimal x ++ w ∷ []
-  unfolding decimal
-  number-is w =
-      let size : length t ≡ 20 = ap length digits-are ∙ length-digitsOf 20 x in
-      let left : take (20 - k) (drop k t) ≡ drop k t = ap (λ (n : ℕ). take (n - k) (drop k t)) (sym size) ∙ part-drop t k in
-      rw (left, e, digits-are)
-
-  pub number-few : length (take (20 - k) (drop k t)) ≤ 20
-  number-few = simp length-take (omega arith)
-
--- ---- lines
+use Rattle.metafile.specs.Listing.{decimal, lineOf, goodOrBad, rowLine, rowLines, endLine, listed, listing}
+use Rattle.metafile.specs.Append.{noRow}
+use Rattle.metafile.specs.Calls.{read}
+use Rattle.read.specs.State.{readOutcome}
+use Rattle.read.specs.Table.{tableRows, tableReading}
+use Rattle.read.proofs.Enough.{table-is}
+use Rattle.listing_text.specs.Text.{numbers, headLines}
 
 pub numbers-are : (a b c d : ℕ)
     → (((decimal a ++ 32 ∷ []) ++ (decimal b ++ 32 ∷ [])) ++ (decimal c ++ 32 ∷ [])) ++ (decimal d ++ 32 ∷ []) ≡ numbers a b c d
@@ -165,3 +66,14 @@ pub listed-is : (rows : List Row) (a : ReadAnswer) → a .count ≤ length rows
     → (headLines (a .good) (a .count) ++ rowLines 0 (take (a .count) rows)) ++ endLine (a .stop) (a .number) ≡ listed (tableReading rows a)
 unfolding listed headLines tableReading
 listed-is rows a h = rw (length-take-le (a .count) rows h)
+
+-- "A program reads a file of up to 65,536 bytes .. with rows enough": the text of the table, and that of a longer file
+
+pub listing-short : (file : List ℕ) (rows : List Row) (a : ReadAnswer) → length file ≤ 65536 → readOutcome a rows ≡ read file (replicate tableRows noRow)
+    → listed (tableReading rows a) ≡ listing file
+unfolding listing
+listing-short file rows a under is = rw (table-is file rows a under is, le-ltb 65536 (length file) under)
+
+pub listing-long : (file : List ℕ) → 65536 < length file → endLine 0 11 ≡ listing file
+unfolding listing
+listing-long file h = rw (lt-ltb 65536 (length file) h)

@@ -1,27 +1,27 @@
 // The listing ("The desk's slip"): the text of the rows of a metafile, made from a reading with rows enough. A file of
-// 65,536 bytes has at most 76 rows, since a row takes 856 bytes; they are read into a local table by the crate read. The
+// 65,536 bytes has at most 76 rows, since a row takes 856 bytes; they are read into a table by value (read::local). The
 // text is made in a local array, so that nothing is written where the lent buffer is too short for it, and then copied.
-//     text     the lines of the text, put one behind the other
-//     rows     the table of 76 rows, by value
+//     listed   the lines of the text, put one behind the other
 // The contract cites listing of the crate metafile (specs/Listing) by listingOutcome of specs/Text; the laws are in
-// proofs/Texts (bytes put behind bytes), proofs/Enough (rows enough) and proofs/Answers (the two refusals).
-pub mod rows;
-mod text;
+// proofs/Texts (the text by its pieces) and proofs/Answers (the two refusals).
+mod listed;
 
 ghost use mathlib.Core.Path.{_≡_};
 ghost use Prim.Native.Nat.{_≤_};
 ghost use lib.ListN.{length};
+ghost use Rattle.metafile.specs.Answers.{outcome};
 ghost use Rattle.metafile.specs.Listing.{listing};
-ghost use Rattle.listing_text.specs.Text.{Put, outcome, listingAnswer, listingOutcome};
+ghost use Rattle.text.specs.Put.{Put};
+ghost use Rattle.listing_text.specs.Text.{listingAnswer, listingOutcome};
+use metafile::LIMIT;
+use metafile::refusals;
+use read::local;
 
 pub enum ListingAnswer {
     // the length of the text
     Written(usize),
     Refused(u8),
 }
-
-// "11 a lent byte buffer over 2^30"
-const LIMIT: usize = 1073741824;
 
 // "A program reads a file of up to 65,536 bytes"
 const MOST: usize = 65536;
@@ -32,10 +32,10 @@ fn put_listing(buffer: &mut [u8], input: &[u8]) -> usize
     ensures { λ r. ⌜ Put (listing (now (input .entry))) 0 (now (buffer .entry)) r (now (buffer .exit)) ⌝ }
 {
     if MOST < input.len() {
-        return text::put_end(buffer, 0, 0, 11);
+        return listed::put_end(buffer, 0, 0, refusals::OVER_LIMIT);
     }
-    let table = rows::read_table(input);
-    text::put_listed(buffer, table)
+    let table = local::read_table(input);
+    listed::put_listed(buffer, table)
 }
 
 // Puts the text at the start of the buffer. Tests 11, of the buffer alone, then 18: an input that is too long is no
@@ -44,12 +44,12 @@ pub fn listing(input: &[u8], buffer: &mut [u8]) -> ListingAnswer
     ensures { λ r. ⌜ outcome (listingAnswer r) (now (buffer .exit)) ≡ listingOutcome (now (input .entry)) (now (buffer .entry)) ⌝ }
 {
     if LIMIT < buffer.len() {
-        return ListingAnswer::Refused(11);
+        return ListingAnswer::Refused(refusals::OVER_LIMIT);
     }
     let mut text = [0u8; 10240];
     let n = put_listing(&mut text, input);
     if buffer.len() < n {
-        return ListingAnswer::Refused(18);
+        return ListingAnswer::Refused(refusals::NO_ROOM);
     }
     lines::put_bytes(buffer, 0, &text[..n]);
     ListingAnswer::Written(n)

@@ -10,14 +10,13 @@ use lib.Dec.{leb}
 use lib.ListN.{length, drop, length-drop}
 use borrow.Author.Tests.{leb-true}
 use Rattle.metafile.specs.Bytes.{_⊳_, choose}
-use Rattle.metafile.specs.Lines.{fault}
 use Rattle.metafile.specs.Multi.{typesOf, multiLength, typesFault, typesBytes, typeIDs, minisFault, minisEnd, minisPlace, declaredIDs, multiFault, multiBytes}
 use Rattle.laws.proofs.First.{cases, and-both, ⊳-left, ⊳-right, ⊳-stop, ⊳-go, ⊳-assoc, require-true, choose-go, choose-stop}
 use Rattle.chunk_laws.proofs.Types.{types-enough}
 use Rattle.multi.specs.declared.Part.{Part}
 use Rattle.multi.specs.Part.{partOf, multiPart, keptIDs, textIDs, headFault, firstMini}
-use Rattle.multi.proofs.Places.{stop}
-use Rattle.multi.proofs.TypeStages.{head-stages, head-second, lf-fits}
+use Rattle.laws.proofs.Stages.{stop}
+use Rattle.multi.proofs.TypeStages.{head-fits}
 use Rattle.multi.proofs.TypeWalk.{types-texts}
 
 -- ---- parts
@@ -58,12 +57,6 @@ module _ (r : List ℕ) where
   unfolding multiFault headFault firstMini
   multi-stages = rw (⊳-assoc, ⊳-assoc)
 
-  pub head-fits : headFault r ≡ 0 → 65 ≤ length r
-  head-fits e =
-      let e1 = sym (head-stages r) ∙ e in
-      let e2 = ⊳-right _ _ e1 in
-      lf-fits 64 r (head-second r (⊳-left _ _ e1) (⊳-left _ _ e2)) (⊳-right _ _ (⊳-right _ _ e2))
-
   pub head-most : headFault r ≡ 0 → typesOf r ≤ 64
   unfolding headFault
   head-most e =
@@ -95,7 +88,7 @@ module _ (r : List ℕ) where
       unfolding minisPlace
       place-inside =
           let a = simp length-drop at (types-enough (typesOf r) (multiLength r) 0 [] (drop 65 r) (part-whole p _ _ e z .0)) in
-          omega (arith, place-is, head-fits h)
+          omega (arith, place-is, head-fits r h)
 
       pub texts-kept : (n : ℕ) (ids : List ℕ) → n ≡ typesOf r → keptIDs n ids ≡ typeIDs n (drop 65 r) → textIDs (keptIDs n ids)
       texts-kept n ids q k = rw (k, q) (types-texts _ _ _ _ _ (part-whole p _ _ e z .0))

@@ -1,4 +1,5 @@
--- The stages of a mini-chunk, each at its place in the bytes, and the answers of the functions that judge it.
+-- The stages of a mini-chunk, and the answers of the functions that judge it. What the reader answered for a field is
+-- handed over as it is (Takes).
 --     first-..    "Where the first must stand, fewer than 10 bytes left are 4, other bytes 8."
 --     mini-..     a mini-chunk: label, short ID, length and data
 --     data-..     its length and data
@@ -13,17 +14,20 @@ use lib.ListN.{length, take, drop, length-take, length-drop}
 use lib.Seq.{drop-drop, length-take-le}
 use Rattle.metafile.specs.Bytes.{part, _⊳_, require, same, member, starts}
 use Rattle.metafile.specs.Fields.{countValue}
-use Rattle.metafile.specs.Lines.{text, free, i12, fixed, value, width, fieldWidth, size, textFault, kindFault, fault, run, table, multiHeaderLength, shortID}
+use Rattle.metafile.specs.Lines.{text, free, i12, fixed, value, opened, fieldWidth, size, fieldFault, textFault, kindFault, fault, run, table, multiHeaderLength, shortID}
 use Rattle.metafile.specs.Answers.{placed}
 use Rattle.metafile.specs.Multi.{miniLabel, miniID, miniData, miniFault}
 use Rattle.table.specs.Codes.{lineNo}
 use Rattle.laws.proofs.First.{test, ⊳-left, ⊳-right, ⊳-none, require-met, require-unmet}
 use Rattle.laws.proofs.Lists.{same-eq}
 use Rattle.laws.proofs.Loops.{fixed-good, placed-nothing}
-use Rattle.laws.proofs.Table.{field-short, field-long, kind-enough, run-enough}
+use Rattle.laws.proofs.Table.{field-short, field-long, run-enough}
 use Rattle.laws.proofs.Distances.{lines}
 use Rattle.multi.specs.Part.{textIDs, firstMini, miniRest, dataUnder}
-use Rattle.multi.proofs.Places.{stop, go, unmet, met, part-at}
+use Rattle.lines.specs.declared.reader.Taken.{Taken}
+use Rattle.lines.specs.Parts.{fieldNo, Takes}
+use Rattle.lines.proofs.Runs.{run-one, takes-stop, takes-fits, takes-go}
+use Rattle.laws.proofs.Stages.{none, stop, go, unmet, met, part-at}
 
 -- ---- where the first must stand
 
@@ -56,22 +60,24 @@ unfolding starts
 label-passes m s e = sym (fixed-good m s (starts-long m s e) (same-eq (take (length m) s) m e))
 
 module _ (at : ℕ) (r : List ℕ) (s : starts miniLabel (drop at r) ≡ true) where
-  name-is : run (fixed miniLabel ∷ value (text 10) ∷ []) (drop at r) ≡ fault (value (text 10)) (drop (at + 10) r)
-  unfolding run _⊳_ fieldWidth miniLabel
-  name-is = rw (label-passes miniLabel (drop at r) s, drop-drop 10 at r) (⊳-none _)
-
-  pub mini-stages : (ids : List (List ℕ)) → miniFault ids (drop at r)
-      ≡ kindFault (lineNo 15 .kind) (drop (at + 10) r)
+  mini-stages : (ids : List (List ℕ)) → miniFault ids (drop at r)
+      ≡ run (fieldNo 15 1 ∷ []) (drop (at + 10) r)
       ⊳ require (member (miniID (drop at r)) ids) 8
       ⊳ miniRest (drop (at + 20) r)
-  unfolding miniFault miniRest miniData lineNo table shortID fault
-  mini-stages ids = rw (name-is, drop-drop 20 at r)
+  unfolding miniFault miniRest miniData run _⊳_ fieldWidth miniLabel fieldNo opened lineNo table shortID
+  mini-stages ids = rw (label-passes miniLabel (drop at r) s, drop-drop 10 at r, drop-drop 20 at r)
+
+  id-is : run (fieldNo 15 1 ∷ []) (drop (at + 10) r) ≡ fieldFault 10 textFault (drop (at + 10) r)
+  unfolding run fault kindFault fieldNo opened lineNo table shortID
+  id-is = ⊳-none _
 
   pub mini-short : (ids : List (List ℕ)) → length r - at < 20 → 4 ≡ miniFault ids (drop at r)
-  unfolding lineNo table shortID kindFault
   mini-short ids k =
       let f = field-short 10 textFault (drop (at + 10) r) (simp length-drop (omega arith)) in
-      stop _ _ 4 (sym f) (λ z. omega arith) ∙ sym (mini-stages ids)
+      stop _ _ 4 (sym (id-is ∙ f)) (λ z. omega arith) ∙ sym (mini-stages ids)
+
+  pub mini-stop : (ids : List (List ℕ)) {id : Taken} → Takes (fieldNo 15 1 ∷ []) (at + 10) r id → (id .fault ≡ 0 → ⊥) → id .fault ≡ miniFault ids (drop at r)
+  mini-stop ids e n = stop _ _ _ (e .first) n ∙ sym (mini-stages ids)
 
   -- x tells whether the short ID is declared
   module _ {x : Bool} (ids : List (List ℕ)) (q : x ≡ member (take (at + 20 - (at + 10)) (drop (at + 10) r)) ids) where
@@ -83,46 +89,33 @@ module _ (at : ℕ) (r : List ℕ) (s : starts miniLabel (drop at r) ≡ true) w
     declared = rw (← drop-drop 10 at r) at asked
 
     pub mini-declared : (f : ℕ) → textIDs ids → 20 ≤ length r - at → x ≡ true → f ≡ miniRest (drop (at + 20) r) → f ≡ miniFault ids (drop at r)
-    unfolding lineNo table shortID kindFault
     mini-declared f texts k t p =
-        let z = field-long 10 textFault (drop (at + 10) r) (simp length-drop (omega arith)) ∙ texts _ (asked ∙ t) in
+        let z = id-is ∙ field-long 10 textFault (drop (at + 10) r) (simp length-drop (omega arith)) ∙ texts _ (asked ∙ t) in
         go _ _ f z (met _ 8 _ f (declared ∙ t) p) ∙ sym (mini-stages ids)
 
-    pub mini-undeclared : x ≡ false → kindFault (lineNo 15 .kind) (drop (at + 10) r) ≡ 0 → 8 ≡ miniFault ids (drop at r)
-    mini-undeclared t z = go _ _ 8 z (unmet _ 7 _ (declared ∙ t)) ∙ sym (mini-stages ids)
+    pub mini-undeclared : x ≡ false → {id : Taken} → Takes (fieldNo 15 1 ∷ []) (at + 10) r id → id .fault ≡ 0 → 8 ≡ miniFault ids (drop at r)
+    mini-undeclared t e z = go _ _ 8 (none (e .first) z) (unmet _ 7 _ (declared ∙ t)) ∙ sym (mini-stages ids)
 
 -- ---- its length and data
 
+module _ {at : ℕ} {r : List ℕ} {long : Taken} (e : Takes (fieldNo 12 1 ∷ []) at r long) where
+  pub data-stop : (long .fault ≡ 0 → ⊥) → long .fault ≡ miniRest (drop at r)
+  unfolding miniRest fieldNo opened lineNo table multiHeaderLength
+  data-stop n = takes-stop _ (value (free (countValue (part at 12 r))) ∷ []) _ _ _ e n
+
+  module _ (z : long .fault ≡ 0) where
+    pub data-fits : at ≤ length r → (at + 12 ≤ length r) × (long .at ≤ length r)
+    unfolding lines fieldNo lineNo table
+    data-fits h = let k = takes-fits _ [] _ _ _ e h z in (omega (arith, e .behind), k)
+
+    pub data-last : {n f : ℕ} → n ≡ countValue (part at 12 r) → f ≡ fault (value (free n)) (drop (long .at) r) → f ≡ miniRest (drop at r)
+    unfolding miniRest fieldNo opened lineNo table multiHeaderLength
+    data-last q p = rw q at p ∙ run-one _ _ ∙ takes-go _ (value (free (countValue (part at 12 r))) ∷ []) _ _ _ e z
+
 module _ (at : ℕ) (r : List ℕ) where
-  pub data-stages : miniRest (drop at r)
-      ≡ kindFault (lineNo 12 .kind) (drop at r) ⊳ fault (value (free (countValue (part at 12 r)))) (drop (at + 12) r)
-  unfolding miniRest lineNo table multiHeaderLength run fieldWidth width i12 fault
-  data-stages = rw (⊳-none, drop-drop 12 at r)
-
-  pub number-fits : at ≤ length r → kindFault (lineNo 12 .kind) (drop at r) ≡ 0 → at + 12 ≤ length r
-  unfolding lines lineNo table
-  number-fits h e =
-      let a = simp length-drop at (kind-enough i12 (drop at r) e) in
-      omega arith
-
   pub data-is : {long : ℕ} → long ≡ countValue (part (at + 20) 12 r) → miniData (drop at r) ≡ long
   unfolding miniData
   data-is l = rw (l, part-at at 20 12 r)
-
-size-name : size (fixed miniLabel ∷ value (text 10) ∷ []) ≡ 20
-unfolding lines miniLabel
-size-name = refl
-
-size-data : (n : ℕ) → size (value i12 ∷ value (free n) ∷ []) ≡ 12 + n
-unfolding lines
-size-data n = omega arith
-
-pub mini-fits : (ids : List (List ℕ)) (t : List ℕ) → miniFault ids t ≡ 0 → 32 + miniData t ≤ length t
-unfolding miniFault
-mini-fits ids t e =
-    let a = rw size-name at (run-enough _ t (⊳-left _ _ e)) in
-    let b = simp (length-drop, size-data) at (run-enough _ (drop 20 t) (⊳-right _ _ (⊳-right _ _ e))) in
-    omega arith
 
 -- ---- what a mini-chunk adds to the data under a short ID
 

@@ -19,7 +19,7 @@ use Rattle.laws.proofs.First.{untrue, ⊳-left, ⊳-right, ⊳-stop, ⊳-go}
 use Rattle.laws.proofs.Loops.{placed-length, placed-nothing, placed-placed}
 use Rattle.chunk_laws.proofs.Multi.{multi-whole}
 use Rattle.multi.specs.Part.{dataUnder}
-use Rattle.multi.proofs.MiniStages.{mini-fits}
+use Rattle.chunk_laws.proofs.Minis.{mini-fits}
 use Rattle.multi.proofs.TypeWalk.{place-fits}
 
 -- ---- k bytes passed over

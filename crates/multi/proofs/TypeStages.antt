@@ -1,5 +1,5 @@
--- The stages of the head and of a type, each at its place in the bytes, and the answers of the functions that judge
--- them. Lines go by their numbers in the table.
+-- The stages of the head and of a type, and the answers of the functions that judge them. What the reader answered for a
+-- stretch is handed over as it is (Takes); lines go by their numbers in the table.
 --     head-..     up to the LF after the type count
 --     length-..   a type's length and the tests on lengths ("Multi_Chunk_Header_Length at the last
 --                 SubType_Header_Length, after that one's own test")
@@ -17,59 +17,66 @@ use lib.Seq.{drop-drop}
 use borrow.Author.Tests.{le-leb, lt-leb, leb-true, eq-eqb, ne-eqb}
 use Rattle.metafile.specs.Bytes.{part, _⊳_, require, member}
 use Rattle.metafile.specs.Fields.{isCount, countValue}
-use Rattle.metafile.specs.Lines.{free, i12, Field, fixed, value, lf, opened, linesOf, size, fieldFault, countFault, kindFault, fault, run, table, subFormatID, timeAndEvent, multiHeaderLength, typeCount, subTypeLength, shortID}
+use Rattle.metafile.specs.Lines.{free, i12, fixed, value, lf, opened, linesOf, size, fieldFault, countFault, kindFault, fault, run, table, timeAndEvent, subTypeLength}
 use Rattle.metafile.specs.Multi.{multiHead, typesOf, typeLength, typeSpecific, typeBytes, typeID, multiLengthFor, typeFault}
 use Rattle.table.specs.Codes.{lineNo, linesFrom}
-use Rattle.laws.proofs.First.{and-both, ⊳-left, ⊳-right, ⊳-assoc, ⊳-none, require-true, require-met, require-unmet}
-use Rattle.laws.proofs.Table.{field-own, run-split, run-at}
+use Rattle.laws.proofs.First.{and-both, ⊳-left, ⊳-right, ⊳-assoc, require-true, require-met, require-unmet}
+use Rattle.laws.proofs.Table.{field-own, run-at}
 use Rattle.laws.proofs.Distances.{lines}
 use Rattle.multi.specs.Part.{headFault, typeLengthFault, typeNames, typeRest}
-use Rattle.multi.proofs.Places.{go, unmet, met, part-at, fits}
+use Rattle.lines.specs.declared.reader.Taken.{Taken}
+use Rattle.lines.specs.Parts.{fieldNo, Takes}
+use Rattle.lines.proofs.Runs.{run-one, field-end, takes-stop, takes-fits, takes-go, takes-both}
+use Rattle.laws.proofs.Stages.{none, stop, go, unmet, met, part-at, fits}
 
 -- ---- the head
 
-size-12 : size (linesOf (lineNo 12 ∷ [])) ≡ 39
-unfolding lines lineNo table
-size-12 = refl
+size-head : size multiHead ≡ 64
+unfolding lines multiHead
+size-head = refl
 
-size-13 : size (opened (lineNo 13)) ≡ 25
-unfolding lines lineNo table
-size-13 = refl
+pub head-fits : (r : List ℕ) → headFault r ≡ 0 → 65 ≤ length r
+unfolding headFault lines
+head-fits r e =
+    fits (lf ∷ []) 1 64 r refl (fits multiHead 64 0 r size-head (omega arith) (⊳-left _ _ e)) (⊳-right _ _ (⊳-right _ _ e))
 
-one-field : (f : Field) (s : List ℕ) → run (f ∷ []) s ≡ fault f s
-unfolding run
-one-field f s = ⊳-none (fault f s)
-
-module _ (r : List ℕ) where
-  pub head-stages : headFault r
-      ≡ run (linesOf (lineNo 12 ∷ [])) (drop 0 r)
-      ⊳ run (opened (lineNo 13)) (drop 39 r)
-      ⊳ require (leb 1 (typesOf r) && leb (typesOf r) 64) 7
-      ⊳ fault lf (drop 64 r)
+module _ {r : List ℕ} {first : Taken} (a : Takes (linesOf (lineNo 12 ∷ [])) 0 r first) where
+  pub head-first : (first .fault ≡ 0 → ⊥) → first .fault ≡ headFault r
   unfolding headFault multiHead lineNo table
-  head-stages =
-      rw (run-split (linesOf (multiHeaderLength ∷ [])) (opened typeCount) r, size-12, one-field lf, ⊳-assoc)
+  head-first n = stop _ _ _ (takes-stop _ (opened (lineNo 13)) _ _ _ a n) n
 
-  module _ (z : run (linesOf (lineNo 12 ∷ [])) (drop 0 r) ≡ 0) where
-    pub head-first : 39 ≤ length r
-    head-first = fits (linesOf (lineNo 12 ∷ [])) 39 0 r size-12 (omega arith) z
+  module _ (z : first .fault ≡ 0) {second : Taken} (b : Takes (opened (lineNo 13)) (first .at) r second) where
+    head-both : Takes multiHead 0 r second
+    unfolding multiHead lineNo table
+    head-both = takes-both _ _ _ _ _ a second z b
 
-    module _ (y : run (opened (lineNo 13)) (drop 39 r) ≡ 0) where
-      pub head-second : 64 ≤ length r
-      head-second = fits (opened (lineNo 13)) 25 39 r size-13 head-first y
+    pub head-second : (second .fault ≡ 0 → ⊥) → second .fault ≡ headFault r
+    unfolding headFault
+    head-second n = stop _ _ _ (head-both .first) n
 
-      passed : (x : ℕ) → x ≡ require (leb 1 (typesOf r) && leb (typesOf r) 64) 7 ⊳ fault lf (drop 64 r) → x ≡ headFault r
-      passed x p = go _ _ x z (go _ _ x y p) ∙ sym head-stages
+    head-place : second .at ≡ 64
+    head-place = omega (arith, head-both .behind, size-head)
 
-      module _ (n : ℕ) (q : n ≡ typesOf r) where
+    module _ (y : second .fault ≡ 0) where
+      pub head-inside : (64 ≤ length r) × (second .at ≤ length r)
+      head-inside =
+          let h = takes-fits _ [] _ _ _ head-both (omega arith) y in
+          (omega (arith, head-place), h)
+
+      passed : (x : ℕ) → x ≡ require (leb 1 (typesOf r) && leb (typesOf r) 64) 7 ⊳ run (lf ∷ []) (drop 64 r) → x ≡ headFault r
+      unfolding headFault
+      passed x p = go _ _ x (none (head-both .first) y) p
+
+      module _ {n : ℕ} (q : n ≡ typesOf r) where
         pub head-few : n < 1 → 7 ≡ headFault r
         head-few h = passed 7 (unmet _ 6 _ (rw (← q, lt-leb 1 n h)))
 
         pub head-many : 1 ≤ n → 64 < n → 7 ≡ headFault r
         head-many h k = passed 7 (unmet _ 6 _ (rw (← q, le-leb 1 n h, lt-leb n 64 k)))
 
-        pub head-passed : (x : ℕ) → 1 ≤ n → n ≤ 64 → x ≡ fault lf (drop 64 r) → x ≡ headFault r
-        head-passed x h k p = passed x (met _ 7 _ x (rw (← q, le-leb 1 n h, le-leb n 64 k)) p)
+        pub head-last : 1 ≤ n → n ≤ 64 → {end : Taken} → Takes (fieldNo 13 2 ∷ []) (second .at) r end → end .fault ≡ headFault r
+        head-last h k e =
+            passed _ (met _ 7 _ _ (rw (← q, le-leb 1 n h, le-leb n 64 k)) (rw (field-end 13, head-place) at (e .first)))
 
 -- ---- a type: its length
 
@@ -93,76 +100,67 @@ pub bytes-are : (at long : ℕ) (r : List ℕ) → long ≡ countValue (part (at
 unfolding typeBytes typeSpecific
 bytes-are at long r l = rw (long-is at long r l)
 
-pub length-fits : (at : ℕ) (r : List ℕ) → at ≤ length r → run (opened (lineNo 14)) (drop at r) ≡ 0 → at + 34 ≤ length r
-length-fits at r h e = fits (opened (lineNo 14)) 34 at r size-14 h e
+module _ {at : ℕ} {r : List ℕ} {line : Taken} (e : Takes (opened (lineNo 14)) at r line) where
+  pub length-fits : line .fault ≡ 0 → at ≤ length r → at + 34 ≤ length r
+  length-fits z h = omega (arith, takes-fits _ [] _ _ _ e h z, e .behind, size-14)
 
-module _ (last : Bool) (announced at : ℕ) (r : List ℕ) where
-  pub length-stages : typeLengthFault last announced (at - 65) (drop at r)
-      ≡ run (opened (lineNo 14)) (drop at r)
-      ⊳ require (leb 484 (typeLength (drop at r))) 7
-      ⊳ require (not last || eqb announced (multiLengthFor (at - 65 + typeBytes (drop at r)))) 7
-  unfolding typeLengthFault lineNo table
-  length-stages = refl
+  pub length-bound : line .fault ≡ 0 → {long : ℕ} → long ≡ countValue (part (at + 22) 12 r) → long ≤ 999999999999
+  length-bound z l = rw (long-is at _ r l) (length-small (drop at r) (none (e .first) z))
 
-  module _ (z : run (opened (lineNo 14)) (drop at r) ≡ 0) (long : ℕ) (l : long ≡ countValue (part (at + 22) 12 r)) where
-    pub length-bound : long ≤ 999999999999
-    length-bound = rw (long-is at long r l) (length-small (drop at r) z)
+  module _ (last : Bool) (announced : ℕ) where
+    pub length-stop : (line .fault ≡ 0 → ⊥) → line .fault ≡ typeLengthFault last announced (at - 65) (drop at r)
+    unfolding typeLengthFault lineNo table
+    length-stop n = stop _ _ _ (e .first) n
 
-    pub length-short : long < 484 → 7 ≡ typeLengthFault last announced (at - 65) (drop at r)
-    length-short h =
-        go _ _ 7 z (unmet _ 6 _ (lt-leb 484 (typeLength (drop at r)) (rw (long-is at long r l) at h))) ∙ sym length-stages
-
-    module _ (h : 484 ≤ long) where
-      enough : (x : ℕ) → x ≡ require (not last || eqb announced (multiLengthFor (at - 65 + typeBytes (drop at r)))) 7
+    module _ (z : line .fault ≡ 0) {long : ℕ} (l : long ≡ countValue (part (at + 22) 12 r)) where
+      passes : (x : ℕ) → x ≡ require (leb 484 long) 7 ⊳ require (not last || eqb announced (multiLengthFor (at - 65 + typeBytes (drop at r)))) 7
           → x ≡ typeLengthFault last announced (at - 65) (drop at r)
-      enough x q =
-          go _ _ x z (met _ 7 _ x (le-leb 484 (typeLength (drop at r)) (rw (long-is at long r l) at h)) q) ∙ sym length-stages
+      unfolding typeLengthFault lineNo table
+      passes x p = go _ _ x (none (e .first) z) (rw (long-is at long r l) at p)
 
-      measured : 27 + (at - 65) + 34 + long ≡ multiLengthFor (at - 65 + typeBytes (drop at r))
-      unfolding multiLengthFor
-      measured = omega (arith, bytes-are at long r l)
+      pub length-short : long < 484 → 7 ≡ typeLengthFault last announced (at - 65) (drop at r)
+      length-short h = passes 7 (unmet _ 6 _ (lt-leb 484 long h))
 
-      pub length-differs : last ≡ true → (announced ≡ 27 + (at - 65) + 34 + long → ⊥) → 7 ≡ typeLengthFault last announced (at - 65) (drop at r)
-      length-differs y n =
-          enough 7 (sym (require-unmet _ 7 (rw y (ne-eqb announced _ (λ q. n (q ∙ sym measured))))))
+      module _ (h : 484 ≤ long) where
+        enough : (x : ℕ) → x ≡ require (not last || eqb announced (multiLengthFor (at - 65 + typeBytes (drop at r)))) 7
+            → x ≡ typeLengthFault last announced (at - 65) (drop at r)
+        enough x q = passes x (met _ 7 _ x (le-leb 484 long h) q)
 
-      pub length-agrees : last ≡ true → announced ≡ 27 + (at - 65) + 34 + long → 0 ≡ typeLengthFault last announced (at - 65) (drop at r)
-      length-agrees y q = enough 0 (sym (require-met _ 7 (rw y (eq-eqb announced _ (q ∙ measured)))))
+        measured : 27 + (at - 65) + 34 + long ≡ multiLengthFor (at - 65 + typeBytes (drop at r))
+        unfolding multiLengthFor
+        measured = omega (arith, bytes-are at long r l)
 
-      pub length-passed : last ≡ false → 0 ≡ typeLengthFault last announced (at - 65) (drop at r)
-      length-passed y = enough 0 (sym (require-met _ 7 (rw y)))
+        pub length-differs : last ≡ true → (announced ≡ 27 + (at - 65) + 34 + long → ⊥) → 7 ≡ typeLengthFault last announced (at - 65) (drop at r)
+        length-differs y n =
+            enough 7 (sym (require-unmet _ 7 (rw y (ne-eqb announced _ (λ q. n (q ∙ sym measured))))))
+
+        pub length-agrees : last ≡ true → announced ≡ 27 + (at - 65) + 34 + long → 0 ≡ typeLengthFault last announced (at - 65) (drop at r)
+        length-agrees y q = enough 0 (sym (require-met _ 7 (rw y (eq-eqb announced _ (q ∙ measured)))))
+
+        pub length-passed : last ≡ false → 0 ≡ typeLengthFault last announced (at - 65) (drop at r)
+        length-passed y = enough 0 (sym (require-met _ 7 (rw y)))
 
 -- ---- a type: names
 
-size-lf : size (lf ∷ []) ≡ 1
-unfolding lines
-size-lf = refl
+module _ {at : ℕ} {s : List ℕ} {end : Taken} (e : Takes (fieldNo 14 2 ∷ []) at s end) where
+  pub names-end : (end .fault ≡ 0 → ⊥) → end .fault ≡ run typeNames (drop at s)
+  unfolding typeNames fieldNo opened lineNo table
+  names-end n = takes-stop _ (linesOf (lineNo 1 ∷ []) ++ opened (lineNo 15)) _ _ _ e n
 
-size-1 : size (linesOf (lineNo 1 ∷ [])) ≡ 270
-unfolding lines lineNo table
-size-1 = refl
+  module _ (z : end .fault ≡ 0) {name : Taken} (a : Takes (linesOf (lineNo 1 ∷ [])) (end .at) s name) where
+    names-both : Takes ((fieldNo 14 2 ∷ []) ++ linesOf (lineNo 1 ∷ [])) at s name
+    names-both = takes-both _ _ _ _ _ e name z a
 
-pub lf-fits : (p : ℕ) (s : List ℕ) → p ≤ length s → fault lf (drop p s) ≡ 0 → p + 1 ≤ length s
-lf-fits p s h e = fits (lf ∷ []) 1 p s size-lf h (one-field lf (drop p s) ∙ e)
+    pub names-first : (name .fault ≡ 0 → ⊥) → name .fault ≡ run typeNames (drop at s)
+    unfolding typeNames fieldNo opened lineNo table
+    names-first n = takes-stop _ (opened (lineNo 15)) _ _ _ names-both n
 
-pub name-fits : (p : ℕ) (s : List ℕ) → p ≤ length s → run (linesOf (lineNo 1 ∷ [])) (drop p s) ≡ 0 → p + 270 ≤ length s
-name-fits p s h e = fits (linesOf (lineNo 1 ∷ [])) 270 p s size-1 h e
+    pub names-fit : at ≤ length s → name .fault ≡ 0 → name .at ≤ length s
+    names-fit h y = takes-fits _ [] _ _ _ names-both h y
 
--- a stretch after an LF, at its place
-after-lf : (fs : List Field) (p : ℕ) (s : List ℕ) → run (lf ∷ fs) (drop p s) ≡ fault lf (drop p s) ⊳ run fs (drop (p + 1) s)
-after-lf fs p s = rw (run-split (lf ∷ []) fs (drop p s), one-field lf, size-lf, drop-drop 1 p s)
-
--- two stretches after it
-after-two : (fs gs : List Field) (n m p : ℕ) (s : List ℕ) → size fs ≡ n → 1 + n ≡ m
-    → run (lf ∷ fs ++ gs) (drop p s) ≡ fault lf (drop p s) ⊳ run fs (drop (p + 1) s) ⊳ run gs (drop (p + m) s)
-after-two fs gs n m p s e q =
-    let place : p + 1 + n ≡ p + m = omega arith in
-    rw (after-lf (fs ++ gs) p s, run-split fs gs (drop (p + 1) s), e, drop-drop n (p + 1) s, place)
-
-pub names-stages : (p : ℕ) (s : List ℕ) → run typeNames (drop p s)
-    ≡ fault lf (drop p s) ⊳ run (linesOf (lineNo 1 ∷ [])) (drop (p + 1) s) ⊳ run (opened (lineNo 15)) (drop (p + 271) s)
-unfolding typeNames lineNo table
-names-stages p s = after-two (linesOf (subFormatID ∷ [])) (opened shortID) 270 271 p s size-1 refl
+    pub names-last : name .fault ≡ 0 → {id : Taken} → Takes (opened (lineNo 15)) (name .at) s id → id .fault ≡ run typeNames (drop at s)
+    unfolding typeNames fieldNo opened lineNo table
+    names-last y f = f .first ∙ takes-go _ (opened (lineNo 15)) _ _ _ names-both y
 
 -- ---- a type: time, events and specific data
 
@@ -170,20 +168,28 @@ size-events : size (linesOf (linesFrom 3 4)) ≡ 183
 unfolding lines linesFrom table
 size-events = refl
 
-pub events-fit : (p : ℕ) (s : List ℕ) → p ≤ length s → run (linesOf (linesFrom 3 4)) (drop p s) ≡ 0 → p + 183 ≤ length s
-events-fit p s h e = fits (linesOf (linesFrom 3 4)) 183 p s size-events h e
+module _ {at : ℕ} {s : List ℕ} {end : Taken} (e : Takes (fieldNo 15 2 ∷ []) at s end) where
+  pub rest-end : (n : ℕ) → (end .fault ≡ 0 → ⊥) → end .fault ≡ run (typeRest n) (drop at s)
+  unfolding typeRest fieldNo opened
+  rest-end n k = takes-stop _ (linesOf timeAndEvent ++ value (free n) ∷ []) _ _ _ e k
 
-pub rest-stages : (n p : ℕ) (s : List ℕ) → run (typeRest n) (drop p s)
-    ≡ fault lf (drop p s) ⊳ run (linesOf (linesFrom 3 4)) (drop (p + 1) s) ⊳ fault (value (free n)) (drop (p + 184) s)
-unfolding typeRest linesFrom table timeAndEvent
-rest-stages n p s =
-    after-two (linesOf timeAndEvent) (value (free n) ∷ []) 183 184 p s size-events refl ∙ rw (one-field (value (free n)))
+  -- f is the fault of the lines
+  module _ (z : end .fault ≡ 0) {f : ℕ} (a : f ≡ run (linesOf (linesFrom 3 4)) (drop (end .at) s)) where
+    rest-both : Takes ((fieldNo 15 2 ∷ []) ++ linesOf (linesFrom 3 4)) at s (record { fault = f; at = end .at + 183 })
+    rest-both = takes-both _ _ _ _ _ e _ z (record { first = a; behind = rw size-events })
+
+    pub rest-events : (n : ℕ) → (f ≡ 0 → ⊥) → f ≡ run (typeRest n) (drop at s)
+    unfolding typeRest fieldNo opened linesFrom table timeAndEvent
+    rest-events n k = takes-stop _ (value (free n) ∷ []) _ _ _ rest-both k
+
+    pub rest-fits : at ≤ length s → f ≡ 0 → end .at + 183 ≤ length s
+    rest-fits h y = takes-fits _ [] _ _ _ rest-both h y
+
+    pub rest-last : (n : ℕ) → f ≡ 0 → {g : ℕ} → g ≡ fault (value (free n)) (drop (end .at + 183) s) → g ≡ run (typeRest n) (drop at s)
+    unfolding typeRest fieldNo opened linesFrom table timeAndEvent
+    rest-last n y q = q ∙ run-one _ _ ∙ takes-go _ (value (free n) ∷ []) _ _ _ rest-both y
 
 -- ---- a type
-
-size-names : size typeNames ≡ 300
-unfolding lines typeNames
-size-names = refl
 
 size-rest : (n : ℕ) → size (typeRest n) ≡ 184 + n
 unfolding lines typeRest
@@ -205,7 +211,7 @@ module _ (at : ℕ) (r : List ℕ) (last : Bool) (announced before : ℕ) (z : t
   length-taken = (⊳-left _ _ z, leb-true _ _ (require-true _ 6 (⊳-left _ _ (⊳-right _ _ z))))
 
   pub names-place : at ≤ length r → at + 34 ≤ length r
-  names-place h = length-fits at r h (length-taken .0)
+  names-place h = fits (opened (lineNo 14)) 34 at r size-14 h (length-taken .0)
 
   pub long-enough : (long : ℕ) → long ≡ countValue (part (at + 22) 12 r) → 484 ≤ long
   long-enough long l = rw (long-is at long r l) (length-taken .1)
@@ -213,7 +219,8 @@ module _ (at : ℕ) (r : List ℕ) (last : Bool) (announced before : ℕ) (z : t
   -- and the names; x tells whether the short ID is among those before
   module _ (y : run typeNames (drop (at + 34) r) ≡ 0) where
     pub rest-place : at ≤ length r → at + 334 ≤ length r
-    rest-place h = omega (arith, fits typeNames 300 (at + 34) r size-names (names-place h) y)
+    unfolding lines typeNames
+    rest-place h = omega (arith, fits typeNames 300 (at + 34) r refl (names-place h) y)
 
     module _ {x : Bool} (ids : List (List ℕ)) (q : x ≡ member (take (at + 334 - (at + 324)) (drop (at + 324) r)) ids) where
       known : member (typeID (drop at r)) ids ≡ x

@@ -1,11 +1,11 @@
 -- What the contracts cite beside the definitions of the crate metafile: what a part of the contents hands back, the short
 -- IDs as they are kept, and the stretches that have a function of their own. Assumes nothing.
-use Prim.Native.Nat.{ℕ, zero, suc, _+_, _-_}
+use Prim.Native.Nat.{ℕ, zero, suc, _+_}
 use mathlib.Core.Bool.{Bool, true, cond, not, _&&_, _||_}
 use mathlib.Core.Path.{_≡_}
 use mathlib.Core.List.{List, [], _∷_, _++_}
 use lib.Dec.{leb, eqb}
-use lib.ListN.{length, take, drop}
+use lib.ListN.{take, drop}
 use Rattle.metafile.specs.Bytes.{part, _⊳_, require, choose, same, member}
 use Rattle.metafile.specs.Fields.{countValue}
 use Rattle.metafile.specs.Lines.{free, i12, Field, value, lf, opened, linesOf, run, fieldFault, textFault, subFormatID, timeAndEvent, subTypeLength, shortID}

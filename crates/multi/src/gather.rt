@@ -9,6 +9,7 @@ ghost use Rattle.multi.specs.Part.{dataUnder};
 use crate::minis;
 use crate::runs;
 use crate::types;
+use table::places;
 
 // Whether a type declares a short ID.
 pub fn is_declared(r: &[u8], id: &[u8]) -> bool
@@ -17,9 +18,9 @@ pub fn is_declared(r: &[u8], id: &[u8]) -> bool
     ensures { λ b. ⌜ b ≡ member (now (id .entry)) (declaredIDs (now (r .entry))) ⌝ }
 {
     let mut left = types::type_count(r);
-    let mut at: usize = 65;
+    let mut at: usize = places::TYPES;
     while 0 < left {
-        if search::same_bytes(id, &r[at + 324..at + 334]) {
+        if search::same_bytes(id, &r[at + places::SHORT_ID..at + places::SHORT_ID_END]) {
             return true;
         }
         at += types::type_bytes(r, at);
@@ -34,7 +35,7 @@ fn minis_place(r: &[u8]) -> usize
     ensures { λ p. ⌜ p ≡ minisPlace (now (r .entry)) ⌝ }
 {
     let mut left = types::type_count(r);
-    let mut at: usize = 65;
+    let mut at: usize = places::TYPES;
     while 0 < left {
         at += types::type_bytes(r, at);
         left -= 1;
@@ -47,8 +48,8 @@ fn length_under(r: &[u8], at: usize, id: &[u8]) -> usize
     requires { ⌜ at + (32 + miniData (drop at (now r))) ≤ length (now r) ⌝ }
     ensures { λ n. ⌜ n ≡ length (dataUnder (now (id .entry)) (drop at (now (r .entry)))) ⌝ }
 {
-    if search::same_bytes(&r[at + 10..at + 20], id) {
-        return runs::length_at(r, at + 20);
+    if search::same_bytes(&r[at + places::MINI_ID..at + places::MINI_LENGTH], id) {
+        return runs::length_at(r, at + places::MINI_LENGTH);
     }
     0
 }
@@ -74,9 +75,9 @@ fn put_under(r: &[u8], at: usize, id: &[u8], buffer: &mut [u8], done: usize) -> 
     ensures { λ n. ⌜ n ≡ done + length (dataUnder (now (id .entry)) (drop at (now (r .entry)))) ⌝ }
     ensures { λ _. ⌜ now (buffer .exit) ≡ placed done (dataUnder (now (id .entry)) (drop at (now (r .entry)))) (now (buffer .entry)) ⌝ }
 {
-    if search::same_bytes(&r[at + 10..at + 20], id) {
-        let n = runs::length_at(r, at + 20);
-        return runs::put_part(r, at + 32, n, buffer, done);
+    if search::same_bytes(&r[at + places::MINI_ID..at + places::MINI_LENGTH], id) {
+        let n = runs::length_at(r, at + places::MINI_LENGTH);
+        return runs::put_part(r, at + places::MINI_DATA, n, buffer, done);
     }
     done
 }

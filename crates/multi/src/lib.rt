@@ -17,19 +17,9 @@ pub use gather::joined_length;
 pub use gather::put_joined;
 ghost use mathlib.Core.Path.{_≡_};
 ghost use Rattle.multi.specs.Part.{multiPart, headFault};
-
-// Lines by their numbers in the table.
-const SUB_FORMAT: usize = 1;
-
-const TIME_AND_EVENT: usize = 3;
-
-const HEADER_LENGTH: usize = 12;
-
-const TYPE_COUNT: usize = 13;
-
-const TYPE_LENGTH: usize = 14;
-
-const SHORT_ID: usize = 15;
+use lines::reader::END;
+use metafile::refusals;
+use table::numbers;
 
 // The first fault, and the number of bytes where there is none.
 #[repr(C)]
@@ -42,22 +32,23 @@ pub struct Part {
 fn head_fault(r: &[u8]) -> u8
     ensures { λ f. ⌜ f ≡ headFault (now (r .entry)) ⌝ }
 {
-    let first = lines::line_fault(r, 0, HEADER_LENGTH);
-    if first != 0 {
-        return first;
+    let first = lines::read_line(r, 0, numbers::MULTI_HEADER_LENGTH);
+    if first.fault != 0 {
+        return first.fault;
     }
-    let second = lines::opened_fault(r, 39, TYPE_COUNT);
-    if second != 0 {
-        return second;
+    let second = lines::read_opened(r, first.at, numbers::TYPE_COUNT);
+    if second.fault != 0 {
+        return second.fault;
     }
     let n = types::type_count(r);
     if n < 1 {
-        return 7;
+        return refusals::LENGTH;
     }
     if n > 64 {
-        return 7;
+        return refusals::LENGTH;
     }
-    lines::lf_fault(r, 64)
+    let end = lines::read_field(r, second.at, numbers::TYPE_COUNT, END);
+    end.fault
 }
 
 // The contents that r begins with.

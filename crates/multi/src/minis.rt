@@ -9,6 +9,10 @@ ghost use Rattle.multi.specs.Part.{partOf, keptIDs, textIDs, firstMini, 
 use crate::Part;
 use crate::runs;
 use crate::types;
+use lines::reader::VALUE;
+use metafile::refusals;
+use table::numbers;
+use table::places;
 
 // Whether a mini-chunk stands at a place.
 pub fn is_mini(r: &[u8], at: usize) -> bool
@@ -23,10 +27,14 @@ pub fn first_fault(r: &[u8], at: usize) -> u8
     requires { ⌜ at ≤ length (now r) ⌝ }
     ensures { λ f. ⌜ f ≡ firstMini (drop at (now (r .entry))) ⌝ }
 {
-    if r.len() - at < 10 {
-        return 4;
+    if r.len() - at < places::MINI_ID {
+        return refusals::SHORT;
     }
-    if is_mini(r, at) { 0 } else { 8 }
+    if is_mini(r, at) {
+        0
+    } else {
+        refusals::SHORT_ID
+    }
 }
 
 // The length of a mini-chunk's data, an I12 as a header length is, and the data.
@@ -34,11 +42,11 @@ fn data_fault(r: &[u8], at: usize) -> u8
     requires { ⌜ at ≤ length (now r) ⌝ }
     ensures { λ f. ⌜ f ≡ miniRest (drop at (now (r .entry))) ⌝ }
 {
-    let f = lines::length_fault(r, at);
-    if f != 0 {
-        return f;
+    let long = lines::read_field(r, at, numbers::MULTI_HEADER_LENGTH, VALUE);
+    if long.fault != 0 {
+        return long.fault;
     }
-    runs::free_fault(r, at + 12, runs::length_at(r, at))
+    runs::free_fault(r, long.at, runs::length_at(r, at))
 }
 
 // The mini-chunk at a place, its label there; its short ID is an A10 as a type's is, one of the n that are declared; what
@@ -49,14 +57,17 @@ fn mini_fault(r: &[u8], at: usize, ids: &[u8], n: usize) -> u8
     requires { ⌜ textIDs (keptIDs n (now ids)) ⌝ }
     ensures { λ f. ⌜ f ≡ miniFault (keptIDs n (now (ids .entry))) (drop at (now (r .entry))) ⌝ }
 {
-    if r.len() - at < 20 {
-        return 4;
+    if r.len() - at < places::MINI_LENGTH {
+        return refusals::SHORT;
     }
-    if types::is_kept(&r[at + 10..at + 20], ids, n) {
-        return data_fault(r, at + 20);
+    if types::is_kept(&r[at + places::MINI_ID..at + places::MINI_LENGTH], ids, n) {
+        return data_fault(r, at + places::MINI_LENGTH);
     }
-    let f = lines::short_id_fault(r, at + 10);
-    if f != 0 { f } else { 8 }
+    let id = lines::read_field(r, at + places::MINI_ID, numbers::SHORT_ID, VALUE);
+    if id.fault != 0 {
+        return id.fault;
+    }
+    refusals::SHORT_ID
 }
 
 // The bytes of a mini-chunk that is whole.
@@ -64,7 +75,7 @@ pub fn mini_bytes(r: &[u8], at: usize) -> usize
     requires { ⌜ at + (32 + miniData (drop at (now r))) ≤ length (now r) ⌝ }
     ensures { λ n. ⌜ n ≡ 32 + miniData (drop at (now (r .entry))) ⌝ }
 {
-    32 + runs::length_at(r, at + 20)
+    places::MINI_DATA + runs::length_at(r, at + places::MINI_LENGTH)
 }
 
 // The mini-chunks from a place on, and their end.

@@ -6,13 +6,15 @@ ghost use Rattle.metafile.specs.Bytes.{part};
 ghost use Rattle.metafile.specs.Fields.{countValue};
 ghost use Rattle.metafile.specs.Lines.{free, value, fault};
 ghost use Rattle.metafile.specs.Answers.{placed};
+use metafile::refusals;
+use table::places;
 
 // The number in the 12 digits at a place.
 pub fn length_at(r: &[u8], at: usize) -> usize
     requires { ⌜ at + 12 ≤ length (now r) ⌝ }
     ensures { λ n. ⌜ n ≡ countValue (part at 12 (now (r .entry))) ⌝ }
 {
-    fields::count_value(&r[at..at + 12]) as usize
+    fields::count_value(&r[at..at + places::LENGTH]) as usize
 }
 
 // A run of n bytes of any value.
@@ -20,7 +22,7 @@ pub fn free_fault(r: &[u8], at: usize, n: usize) -> u8
     requires { ⌜ at ≤ length (now r) ⌝ }
     ensures { λ f. ⌜ f ≡ fault (value (free n)) (drop at (now (r .entry))) ⌝ }
 {
-    if r.len() - at < n { 4 } else { 0 }
+    if r.len() - at < n { refusals::SHORT } else { 0 }
 }
 
 // The n bytes of r from a place on, copied to a place of a buffer; the answer is the place after them.

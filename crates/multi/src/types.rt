@@ -10,17 +10,17 @@ ghost use Rattle.metafile.specs.Lines.{run};
 ghost use Rattle.metafile.specs.Multi.{typesOf, multiLength, typeBytes, typeFault, typesFault, typesBytes, typeIDs};
 ghost use Rattle.multi.specs.Part.{partOf, keptIDs, typeNames, typeRest, typeLengthFault};
 use crate::Part;
-use crate::SHORT_ID;
-use crate::SUB_FORMAT;
-use crate::TIME_AND_EVENT;
-use crate::TYPE_LENGTH;
 use crate::runs;
+use lines::reader::END;
+use metafile::refusals;
+use table::numbers;
+use table::places;
 
 pub fn type_count(r: &[u8]) -> usize
     requires { ⌜ 64 ≤ length (now r) ⌝ }
     ensures { λ n. ⌜ n ≡ typesOf (now (r .entry)) ⌝ }
 {
-    fields::count_value(&r[60..64]) as usize
+    fields::count_value(&r[places::TYPE_COUNT..places::TYPE_COUNT_END]) as usize
 }
 
 // Whether a short ID is among the first n that were kept.
@@ -30,8 +30,8 @@ pub fn is_kept(id: &[u8], ids: &[u8], n: usize) -> bool
 {
     let mut i: usize = 0;
     while i < n {
-        let from = i * 10;
-        if search::same_bytes(id, &ids[from..from + 10]) {
+        let from = i * places::ID;
+        if search::same_bytes(id, &ids[from..from + places::ID]) {
             return true;
         }
         i += 1;
@@ -44,17 +44,19 @@ fn type_length_fault(r: &[u8], at: usize, last: bool, announced: usize) -> u8
     requires { ⌜ (65 ≤ at) × (at ≤ length (now r)) ⌝ }
     ensures { λ f. ⌜ f ≡ typeLengthFault last announced (at - 65) (drop at (now (r .entry))) ⌝ }
 {
-    let f = lines::opened_fault(r, at, TYPE_LENGTH);
-    if f != 0 {
-        return f;
+    let line = lines::read_opened(r, at, numbers::SUB_TYPE_LENGTH);
+    if line.fault != 0 {
+        return line.fault;
     }
-    let long = runs::length_at(r, at + 22);
-    if long < 484 {
-        return 7;
+    let long = runs::length_at(r, at + places::TYPE_LENGTH);
+    if long < places::LEAST_TYPE_LENGTH {
+        return refusals::LENGTH;
     }
     if last {
-        if announced != 27 + (at - 65) + 34 + long {
-            return 7;
+        if announced
+            != places::LEAST_MULTI_LENGTH + (at - places::TYPES) + places::TYPE_LENGTH_END + long
+        {
+            return refusals::LENGTH;
         }
     }
     0
@@ -65,15 +67,16 @@ fn type_names_fault(r: &[u8], at: usize) -> u8
     requires { ⌜ at ≤ length (now r) ⌝ }
     ensures { λ f. ⌜ f ≡ run typeNames (drop at (now (r .entry))) ⌝ }
 {
-    let f = lines::lf_fault(r, at);
-    if f != 0 {
-        return f;
+    let end = lines::read_field(r, at, numbers::SUB_TYPE_LENGTH, END);
+    if end.fault != 0 {
+        return end.fault;
     }
-    let name = lines::line_fault(r, at + 1, SUB_FORMAT);
-    if name != 0 {
-        return name;
+    let name = lines::read_line(r, end.at, numbers::SUB_FORMAT_ID);
+    if name.fault != 0 {
+        return name.fault;
     }
-    lines::opened_fault(r, at + 271, SHORT_ID)
+    let id = lines::read_opened(r, name.at, numbers::SHORT_ID);
+    id.fault
 }
 
 // From the LF after the short ID to the end of the specific data.
@@ -81,15 +84,15 @@ fn type_rest_fault(r: &[u8], at: usize, specific: usize) -> u8
     requires { ⌜ at ≤ length (now r) ⌝ }
     ensures { λ f. ⌜ f ≡ run (typeRest specific) (drop at (now (r .entry))) ⌝ }
 {
-    let f = lines::lf_fault(r, at);
-    if f != 0 {
-        return f;
+    let end = lines::read_field(r, at, numbers::SHORT_ID, END);
+    if end.fault != 0 {
+        return end.fault;
     }
-    let events = lines::lines_fault(r, at + 1, TIME_AND_EVENT, 4);
+    let events = lines::lines_fault(r, end.at, numbers::TIME_SYNCH_TYPE, 4);
     if events != 0 {
         return events;
     }
-    runs::free_fault(r, at + 184, specific)
+    runs::free_fault(r, end.at + places::TIME_AND_EVENT_BYTES, specific)
 }
 
 // The type at a place: whether it is the last, the length to meet there, and the n short IDs before it.
@@ -101,14 +104,18 @@ fn type_fault(r: &[u8], at: usize, last: bool, announced: usize, ids: &[u8], n: 
     if long != 0 {
         return long;
     }
-    let names = type_names_fault(r, at + 34);
+    let names = type_names_fault(r, at + places::TYPE_LENGTH_END);
     if names != 0 {
         return names;
     }
-    if is_kept(&r[at + 324..at + 334], ids, n) {
-        return 8;
+    if is_kept(&r[at + places::SHORT_ID..at + places::SHORT_ID_END], ids, n) {
+        return refusals::SHORT_ID;
     }
-    type_rest_fault(r, at + 334, runs::length_at(r, at + 22) - 484)
+    type_rest_fault(
+        r,
+        at + places::SHORT_ID_END,
+        runs::length_at(r, at + places::TYPE_LENGTH) - places::LEAST_TYPE_LENGTH,
+    )
 }
 
 // The bytes of a type that is whole.
@@ -116,11 +123,11 @@ pub fn type_bytes(r: &[u8], at: usize) -> usize
     requires { ⌜ at + typeBytes (drop at (now r)) ≤ length (now r) ⌝ }
     ensures { λ n. ⌜ n ≡ typeBytes (drop at (now (r .entry))) ⌝ }
 {
-    let long = runs::length_at(r, at + 22);
-    if long < 484 {
-        return 518;
+    let long = runs::length_at(r, at + places::TYPE_LENGTH);
+    if long < places::LEAST_TYPE_LENGTH {
+        return places::TYPE_SPECIFIC;
     }
-    long + 34
+    long + places::TYPE_LENGTH_END
 }
 
 // The n types, and the place after them; their short IDs are kept.
@@ -129,8 +136,8 @@ pub fn types_part(r: &[u8], n: usize, ids: &mut [u8]) -> Part
     ensures { λ p. ⌜ p ≡ partOf (typesFault n (multiLength (now (r .entry))) 0 [] (drop 65 (now (r .entry)))) (65 + typesBytes n (drop 65 (now (r .entry)))) ⌝ }
     ensures { λ p. ⌜ (p .number ≡ 0 → keptIDs n (now (ids .exit)) ≡ typeIDs n (drop 65 (now (r .entry)))) ⌝ }
 {
-    let announced = runs::length_at(r, 26);
-    let mut at: usize = 65;
+    let announced = runs::length_at(r, places::MULTI_HEADER_LENGTH);
+    let mut at: usize = places::TYPES;
     let mut i: usize = 0;
     while i < n {
         let f = type_fault(r, at, i + 1 == n, announced, ids, i);
@@ -140,7 +147,7 @@ pub fn types_part(r: &[u8], n: usize, ids: &mut [u8]) -> Part
                 bytes: 0,
             };
         }
-        runs::put_part(r, at + 324, 10, ids, i * 10);
+        runs::put_part(r, at + places::SHORT_ID, places::ID, ids, i * places::ID);
         at += type_bytes(r, at);
         i += 1;
     }

@@ -1,6 +1,6 @@
 -- The answers of parent, by its tests ("Parent, contents and gather test 11 and then by rising number").
 --     compared                           n bytes from each of two places on, as slices give them
---     refused-11 refused-13 refused-14   a number only
+--     refused-row refused-14             a number only
 --     dependency-inside                  a dependency of a row that is there lies inside the file
 --     Met, met                           the row with a serial number is there: its place, inside the file
 --     missing answered                   no row has its serial; the row that has it, and whether the sub-formats agree
@@ -22,12 +22,13 @@ use Rattle.metafile.specs.Answers.{refused, parentAnswer, firstRefusal}
 use Rattle.metafile.specs.Append.{rowNo, subFormatOf}
 use Rattle.metafile.specs.Calls.{rowWith, chunkOf, parentRow, agree, parentTests, parent}
 use Rattle.laws.proofs.First.{test, choose-go, choose-stop}
-use Rattle.laws.proofs.Accepted.{refusal-first, refusal-next}
+use Rattle.laws.proofs.Accepted.{refusal-first, refusal-next, tests-end}
 use Rattle.chunk_laws.proofs.Places.{RowInside, row-inside}
-use Rattle.walk.specs.declared.answers.Found.{Found}
+use Rattle.walk.specs.declared.cursor.Cursor.{Cursor}
 use Rattle.walk.specs.declared.answers.Numbered.{Numbered}
 use Rattle.walk.specs.Walk.{numberedOf}
-use Rattle.contents.proofs.Rows.{over, file-within, tests-13, tests-on, tests-end, Named}
+use Rattle.walk.specs.Cursor.{namedOf}
+use Rattle.walk.proofs.Named.{tests-on, Named, refused as row-refused}
 
 slice-is : (s : List ℕ) (a n : ℕ) → take (a + n - a) (drop a s) ≡ part a n s
 slice-is s a n = let e : a + n - a ≡ n = omega arith in rw e
@@ -66,58 +67,54 @@ module _ (file x : List ℕ) (f : Numbered) (e : f ≡ numberedOf file x) where
 -- ---- the answers
 
 module _ (file : List ℕ) (k j : ℕ) where
-  refused-with : (n : ℕ) → firstRefusal (parentTests file k j) ≡ suc n → parentAnswer (Refused (suc n)) ≡ parent file k j
+  refused-with : (n : ℕ) → (n ≡ 0 → ⊥) → firstRefusal (parentTests file k j) ≡ n → parentAnswer (Refused n) ≡ parent file k j
   unfolding parent parentAnswer
-  refused-with n e = sym (choose-stop (firstRefusal (parentTests file k j)) _ _ (λ z. omega arith) ∙ ap refused e)
+  refused-with n y e = sym (choose-stop (firstRefusal (parentTests file k j)) _ _ (λ z. y (sym e ∙ z)) ∙ ap refused e)
 
-  pub refused-11 : 1073741824 < length file → parentAnswer (Refused 11) ≡ parent file k j
+  -- 11 and 13
+  pub refused-row : (own : Cursor) → own ≡ namedOf file k → (own .number ≡ 0 → ⊥) → parentAnswer (Refused (own .number)) ≡ parent file k j
   unfolding parentTests
-  refused-11 h = refused-with 10 (refusal-first 11 _ _ (over (length file) [] h))
+  refused-row own e z = refused-with (own .number) z (row-refused file k own e z _)
 
-  module _ (h : length file ≤ 1073741824) where
-    pub refused-13 : length (rowsOf file) ≤ k → parentAnswer (Refused 13) ≡ parent file k j
+  module _ (own : Cursor) (w : Named file k own) where
+    pub refused-14 : own .layout .dependencies ≤ j → parentAnswer (Refused 14) ≡ parent file k j
     unfolding parentTests
-    refused-13 e = refused-with 12 (tests-13 _ _ k _ (file-within file h) e)
+    refused-14 e =
+        let d : rowNo (rowsOf file) k .dependencies ≤ j = omega (arith, w .dependencies-is) in
+        refused-with 14 (λ z. omega arith) (tests-on _ _ k _ (w .file-small) (w .in-rows) ∙ refusal-first 14 _ [] (le-leb _ _ d))
 
-    module _ (own : Found) (w : Named file k own) where
-      pub refused-14 : own .layout .dependencies ≤ j → parentAnswer (Refused 14) ≡ parent file k j
+    module _ (l : j < own .layout .dependencies) where
+      pub dependency-inside : own .at + 568 + 344 * j + 344 ≤ length file
+      dependency-inside = omega (arith, w .lies .dependencies-inside, w .place-is, w .dependencies-is)
+
+      none : firstRefusal (parentTests file k j) ≡ 0
       unfolding parentTests
-      refused-14 e =
-          let d : rowNo (rowsOf file) k .dependencies ≤ j = omega (arith, w .dependencies-is) in
-          refused-with 13 (tests-on _ _ k _ (file-within file h) (w .in-rows) ∙ refusal-first 14 _ [] (le-leb _ _ d))
+      none =
+          let d : j < rowNo (rowsOf file) k .dependencies = omega (arith, w .dependencies-is) in
+          tests-on _ _ k _ (w .file-small) (w .in-rows) ∙ refusal-next 14 _ [] (lt-leb _ _ d) ∙ tests-end
 
-      module _ (l : j < own .layout .dependencies) where
-        pub dependency-inside : own .place + 568 + 344 * j + 344 ≤ length file
-        dependency-inside = omega (arith, w .lies .dependencies-inside, w .place-is, w .dependencies-is)
+      -- the row with the dependency's serial number
+      module _ (f : Numbered) (e : f ≡ numberedOf file (part (own .at + 568 + 344 * j + 25) 38 file)) where
+        row-is : rowWith (part (own .at + 568 + 344 * j + 25) 38 file) (rowsOf file) ≡ parentRow file k j
+        unfolding parentRow chunkOf dependencySerialOf
+        row-is =
+            let place : own .at + 568 + 344 * j + 25 ≡ rowNo (rowsOf file) k .place + (568 + 344 * j + 25) = omega (arith, w .place-is) in
+            rw (place, in-chunk file (rowNo (rowsOf file) k .place) (568 + 344 * j + 25) 38)
 
-        none : firstRefusal (parentTests file k j) ≡ 0
-        unfolding parentTests
-        none =
-            let d : j < rowNo (rowsOf file) k .dependencies = omega (arith, w .dependencies-is) in
-            tests-on _ _ k _ (file-within file h) (w .in-rows) ∙ refusal-next 14 _ [] (lt-leb _ _ d) ∙ tests-end
+        pub missing : f .there ≡ false → parentAnswer Missing ≡ parent file k j
+        unfolding parent parentAnswer
+        missing t =
+            let out : ltb (parentRow file k j) (length (rowsOf file)) ≡ false = le-ltb _ _ (rw row-is at (unmet file _ f e t)) in
+            sym (choose-go (firstRefusal (parentTests file k j)) _ _ none ∙ rw out)
 
-        -- the row with the dependency's serial number
-        module _ (f : Numbered) (e : f ≡ numberedOf file (part (own .place + 568 + 344 * j + 25) 38 file)) where
-          row-is : rowWith (part (own .place + 568 + 344 * j + 25) 38 file) (rowsOf file) ≡ parentRow file k j
-          unfolding parentRow chunkOf dependencySerialOf
-          row-is =
-              let place : own .place + 568 + 344 * j + 25 ≡ rowNo (rowsOf file) k .place + (568 + 344 * j + 25) = omega (arith, w .place-is) in
-              rw (place, in-chunk file (rowNo (rowsOf file) k .place) (568 + 344 * j + 25) 38)
-
-          pub missing : f .there ≡ false → parentAnswer Missing ≡ parent file k j
-          unfolding parent parentAnswer
-          missing t =
-              let out : ltb (parentRow file k j) (length (rowsOf file)) ≡ false = le-ltb _ _ (rw row-is at (unmet file _ f e t)) in
-              sym (choose-go (firstRefusal (parentTests file k j)) _ _ none ∙ rw out)
-
-          pub answered : Met file (part (own .place + 568 + 344 * j + 25) 38 file) f
-              → (b : Bool) → b ≡ same (part (own .place + 568 + 344 * j + 87) 256 file) (part (f .place + 46) 256 file)
-              → parentAnswer (Answered (f .row) b) ≡ parent file k j
-          unfolding parent parentAnswer agree chunkOf subFormatOf subFormat dependencySubFormatOf
-          answered v b q =
-              let p : parentRow file k j ≡ f .row = sym (v .row-is ∙ row-is) in
-              let place : own .place + 568 + 344 * j + 87 ≡ rowNo (rowsOf file) k .place + (568 + 344 * j + 87) = omega (arith, w .place-is) in
-              let there : ltb (f .row) (length (rowsOf file)) ≡ true = lt-ltb _ _ (v .in-rows) in
-              let is : b ≡ same (part (568 + 344 * j + 87) 256 (drop (rowNo (rowsOf file) k .place) file)) (part 46 256 (drop (rowNo (rowsOf file) (f .row) .place) file)) =
-              q ∙ rw (place, v .place-is, in-chunk file (rowNo (rowsOf file) k .place) (568 + 344 * j + 87) 256, in-chunk file (rowNo (rowsOf file) (f .row) .place) 46 256) in
-              sym (choose-go (firstRefusal (parentTests file k j)) _ _ none ∙ rw (p, there, ← is))
+        pub answered : Met file (part (own .at + 568 + 344 * j + 25) 38 file) f
+            → (b : Bool) → b ≡ same (part (own .at + 568 + 344 * j + 87) 256 file) (part (f .place + 46) 256 file)
+            → parentAnswer (Answered (f .row) b) ≡ parent file k j
+        unfolding parent parentAnswer agree chunkOf subFormatOf subFormat dependencySubFormatOf
+        answered v b q =
+            let p : parentRow file k j ≡ f .row = sym (v .row-is ∙ row-is) in
+            let place : own .at + 568 + 344 * j + 87 ≡ rowNo (rowsOf file) k .place + (568 + 344 * j + 87) = omega (arith, w .place-is) in
+            let there : ltb (f .row) (length (rowsOf file)) ≡ true = lt-ltb _ _ (v .in-rows) in
+            let is : b ≡ same (part (568 + 344 * j + 87) 256 (drop (rowNo (rowsOf file) k .place) file)) (part 46 256 (drop (rowNo (rowsOf file) (f .row) .place) file)) =
+            q ∙ rw (place, v .place-is, in-chunk file (rowNo (rowsOf file) k .place) (568 + 344 * j + 87) 256, in-chunk file (rowNo (rowsOf file) (f .row) .place) 46 256) in
+            sym (choose-go (firstRefusal (parentTests file k j)) _ _ none ∙ rw (p, there, ← is))

@@ -2,7 +2,7 @@
 // agree, or missing". The rows are those of a reading with rows enough, which the crate walk goes through without a
 // table, once: the index of serial numbers up to row k serves the search behind it too. No chunk's sum is taken and
 // nothing is written. The contract cites parent and parentAnswer of the crate metafile (specs/Calls, Answers); it rests
-// on the laws of rows in the crate contents.
+// on the laws of the row of a number in walk (proofs/Named). Distances are those of the table.
 ghost use mathlib.Core.Path.{_≡_};
 ghost use Prim.Native.Nat.{_+_, _≤_};
 ghost use lib.ListN.{length};
@@ -10,14 +10,8 @@ ghost use Rattle.metafile.specs.Bytes.{part, same};
 ghost use Rattle.metafile.specs.Answers.{parentAnswer};
 ghost use Rattle.metafile.specs.Calls.{parent};
 use metafile::ParentAnswer;
-
-// 2^30: a longer file is refused, 11.
-const LIMIT: usize = 1073741824;
-
-// "13 row not in the reading", "14 no dependency j"
-const NO_ROW: u8 = 13;
-
-const NO_DEPENDENCY: u8 = 14;
+use metafile::refusals;
+use table::places;
 
 // The serial number at a place of the file.
 fn serial_at(file: &[u8], at: usize) -> [u8; 38]
@@ -33,32 +27,30 @@ fn agree(file: &[u8], a: usize, b: usize) -> bool
     requires { ⌜ b + 256 ≤ length (now file) ⌝ }
     ensures { λ r. ⌜ r ≡ same (part a 256 (now (file .entry))) (part b 256 (now (file .entry))) ⌝ }
 {
-    search::same_bytes(&file[a..a + 256], &file[b..b + 256])
+    search::same_bytes(&file[a..a + places::NAME], &file[b..b + places::NAME])
 }
 
-// Tests 11, 13, 14. A dependency takes 344 bytes: its serial number stands at byte 25, its sub-format at byte 87.
+// Tests 11, 13, 14.
 pub fn parent(file: &[u8], row: usize, dependency: usize) -> ParentAnswer
     ensures { λ r. ⌜ parentAnswer r ≡ parent (now (file .entry)) row dependency ⌝ }
 {
-    if LIMIT < file.len() {
-        return ParentAnswer::Refused(11);
-    }
-    let h = walk::header(file);
-    if h.number != 0 {
-        return ParentAnswer::Refused(NO_ROW);
-    }
-    let mut index = walk::empty_index();
-    let own = walk::walk_to(file, h, row, &mut index);
-    if !own.there {
-        return ParentAnswer::Refused(NO_ROW);
+    let mut index = [0u32; walk::INDEX];
+    let own = walk::row_of(file, row, &mut index);
+    if own.number != 0 {
+        return ParentAnswer::Refused(own.number);
     }
     if own.layout.dependencies <= dependency {
-        return ParentAnswer::Refused(NO_DEPENDENCY);
+        return ParentAnswer::Refused(refusals::NO_DEPENDENCY);
     }
-    let at = own.place + 568 + 344 * dependency;
-    let found = walk::row_with(file, h, row, serial_at(file, at + 25), &mut index);
+    let at = own.at + places::DEPENDENCIES + places::DEPENDENCY_BYTES * dependency;
+    let serial = serial_at(file, at + places::DEPENDENCY_SERIAL);
+    let found = walk::row_with(file, own, serial, &mut index);
     if !found.there {
         return ParentAnswer::Missing;
     }
-    ParentAnswer::Found(found.row, agree(file, at + 87, found.place + 46))
+    let subformat = found.place + places::SUB_FORMAT;
+    ParentAnswer::Found(
+        found.row,
+        agree(file, at + places::DEPENDENCY_SUB_FORMAT, subformat),
+    )
 }

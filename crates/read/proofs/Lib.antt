@@ -1,3 +1,4 @@
 pub mod Laws
 pub mod LendArray
 pub mod Turns
+pub mod Enough

@@ -4,7 +4,9 @@
 // are looked at for the number alone. The index of the serial numbers met so far is a local array, lent to first and next.
 // It rests on walk for the header, the steps and the index, and on chunk for the row of a chunk.
 //     states   the state of the reading with n rows written
+//     local    a reading into a table of 76 rows, by value
 // The contract cites read of the crate metafile (specs/Calls), the states specs/State; the laws are in proofs/Laws and Turns.
+pub mod local;
 mod states;
 
 ghost use mathlib.Core.Path.{_≡_};

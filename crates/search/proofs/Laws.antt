@@ -1,7 +1,7 @@
 -- Laws of the search for a mark ("the first place where the mark occurs"), for the loops of src/lib.rt.
 --     same-..      two runs of bytes compared from the front: lengths that differ, a byte that differs, one byte more, the end
 --     all-..       all bytes compared, one after another
---     starts-..    a beginning: too short, inside the first of two runs, across both
+--     starts-..    a beginning: too short, across two runs
 --     find-..      found here, later, never past the end
 --     Passed       the search over all is the search from a place on: nothing was found before it
 --     passed-..    such a place where the search begins, one place on, on to a byte; what is found there, at the end
@@ -17,17 +17,12 @@ use native.Mathlib.Numerals.{add-one}
 use native.Mathlib.Omega.{arith}
 use lib.Dec.{eqb}
 use lib.ListN.{length, take, drop, getD, length-append, length-drop, length-take, take-append-drop, drop-of-length-le}
-use lib.Seq.{drop-cons, take-append-le, drop-append-le, drop-drop, take-all, take-append-add}
+use lib.Seq.{drop-cons, drop-append-le, drop-drop, take-append-add}
 use borrow.Author.Tests.{eq-eqb, ne-eqb, eqb-true}
 use Rattle.metafile.specs.Bytes.{same, starts, find}
-
-test : {A : Type 0} (b : Bool) → (b ≡ true → A) → (b ≡ false → A) → A
-test true f g = f refl
-test false f g = g refl
-
--- a part to the end of a slice, as a call gets it
-part-is : (s : List ℕ) (p : ℕ) → take (length s - p) (drop p s) ≡ drop p s
-part-is s p = take-all (length s - p) (drop p s) (omega (arith, length-drop p s))
+use Rattle.laws.proofs.First.{test}
+use Rattle.laws.proofs.Lists.{find-fits}
+use Rattle.laws.proofs.Loops.{part-drop}
 
 -- ---- the same bytes
 
@@ -87,10 +82,6 @@ pub starts-short : (m s : List ℕ) → length s < length m → false ≡ starts
 unfolding starts
 starts-short m s h = same-lengths (take (length m) s) m (λ e. omega (arith, length-take (length m) s))
 
-pub starts-inside : (m s t : List ℕ) → length m ≤ length s → starts m (s ++ t) ≡ starts m s
-unfolding starts
-starts-inside m s t h = rw (take-append-le (length m) s t h)
-
 starts-across : (m s t : List ℕ) → length s ≤ length m
     → starts m (s ++ t) ≡ (same s (take (length s) m) && starts (drop (length s) m) t)
 unfolding starts
@@ -106,7 +97,7 @@ starts-across m s t h =
 -- the part of the mark behind s, as a call gets it
 pub starts-rest : (m s t : List ℕ) (a b : Bool) → length s ≤ length m → a ≡ same s (take (length s) m) → a ≡ true
     → b ≡ starts (take (length m - length s) (drop (length s) m)) t → b ≡ starts m (s ++ t)
-starts-rest m s t a b h e z f = rw part-is at f ∙ sym (starts-across m s t h ∙ rw (← e, z))
+starts-rest m s t a b h e z f = rw part-drop at f ∙ sym (starts-across m s t h ∙ rw (← e, z))
 
 pub starts-not : (m s t : List ℕ) (a : Bool) → length s ≤ length m → a ≡ same s (take (length s) m) → a ≡ false → false ≡ starts m (s ++ t)
 starts-not m s t a h e z = sym (starts-across m s t h ∙ rw (← e, z))
@@ -128,11 +119,6 @@ find-later : (m s : List ℕ) → 0 < length s → starts m s ≡ false → find
 unfolding find
 find-later m [] h e = absurd (omega arith)
 find-later m (x ∷ s) h e = rw e
-
-pub find-bound : (m s : List ℕ) → find m s ≤ length s
-unfolding find
-find-bound m [] = omega arith
-find-bound m (x ∷ s) = test (starts m (x ∷ s)) (λ q. rw q (omega arith)) (λ q. rw q (omega (arith, find-bound m s)))
 
 pub passed-here : (m s : List ℕ) (p : ℕ) → starts m (drop p s) ≡ true → Passed m s p → p ≡ find m s
 passed-here m s p e h = omega (arith, find-here m (drop p s) e)
@@ -187,12 +173,12 @@ passed-byte (x ∷ m) s t p k n l h e =
     omega arith
 
 pub byte-within : (b : ℕ) (s : List ℕ) (p k : ℕ) → p ≤ length s → k ≡ find (b ∷ []) (drop p s) → p + k ≤ length s
-byte-within b s p k l e = omega (arith, find-bound (b ∷ []) (drop p s), length-drop p s)
+byte-within b s p k l e = omega (arith, find-fits (b ∷ []) (drop p s), length-drop p s)
 
 -- ---- inside the first of two runs
 
 place-is : (m s t : List ℕ) (p : ℕ) → p ≤ length s → starts m (take (length s - p) (drop p s) ++ t) ≡ starts m (drop p (s ++ t))
-place-is m s t p h = rw (part-is s p, drop-append-le p s t h)
+place-is m s t p h = rw (part-drop s p, drop-append-le p s t h)
 
 pub inside-none : (m s t : List ℕ) → length m ≡ 0 → 0 ≡ min (find m (s ++ t)) (length s)
 unfolding starts same
@@ -202,7 +188,7 @@ inside-none (x ∷ m) s t e = absurd (omega arith)
 pub inside-begin : (m s t : List ℕ) (k : ℕ) → 0 < length m → k ≡ find (getD m 0 0 ∷ []) s → (k ≤ length s) × Passed m (s ++ t) k
 inside-begin m s t k n e =
     let q = passed-byte m s t 0 k n (omega arith) (passed-none m (s ++ t)) e in
-    (omega (arith, find-bound (getD m 0 0 ∷ []) s), rw zero-add at q)
+    (omega (arith, find-fits (getD m 0 0 ∷ []) s), rw zero-add at q)
 
 pub inside-here : (m s t : List ℕ) (p : ℕ) → p < length s → Passed m (s ++ t) p
     → starts m (take (length s - p) (drop p s) ++ t) ≡ true → p ≡ min (find m (s ++ t)) (length s)
@@ -216,7 +202,7 @@ pub inside-next : (m s t : List ℕ) (p k : ℕ) → 0 < length m → p < length
     → (p + 1 + k ≤ length s) × Passed m (s ++ t) (p + 1 + k)
 inside-next m s t p k n l h e f =
     let q = passed-one m (s ++ t) p (omega (arith, length-append s t)) (sym (place-is m s t p (omega arith)) ∙ e) h in
-    let g = rw part-is at f in
+    let g = rw part-drop at f in
     (byte-within (getD m 0 0) s (p + 1) k (omega arith) g, passed-byte m s t (p + 1) k n (omega arith) q g)
 
 pub inside-end : (m s t : List ℕ) (p : ℕ) → p ≡ length s → Passed m (s ++ t) p → p ≡ min (find m (s ++ t)) (length s)
@@ -234,4 +220,4 @@ pub inside-both : (m s t : List ℕ) (p q : ℕ) → p ≡ min (find m (s ++ t))
     → q ≡ min (find m (t ++ take 0 t)) (length t) → p + q ≡ find m (s ++ t)
 inside-both m s t p q e l f =
     let g = rw append-nil at f in
-    omega (arith, find-behind m s t (omega arith), find-bound m t)
+    omega (arith, find-behind m s t (omega arith), find-fits m t)

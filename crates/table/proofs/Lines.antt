@@ -1,7 +1,7 @@
 -- The code's table of lines is the table of the definitions. One equation of lists and one test over the whole table,
 -- each computed once; the rule at each number follows.
---     line-is       the line at a number, from its code
---     label-fits    its label stands among the labels
+--     line-is       the line at a number, from the code's row
+--     label-fits label-held   its label stands in the bytes that the row has for it
 --     label-part, label-long, width-is   its label, the label's length, the value's width
 --     width-small number-small checksum-small   bounds of the widths
 -- Assumes nothing.
@@ -16,7 +16,7 @@ use borrow.Author.Tests.{leb-true, eqb-true}
 use Rattle.table.specs.declared.Kind.{Kind as Code}
 use Rattle.table.specs.declared.Kind.the-variants.{Number, Checksum, Text, Date, Offset, Serial, Generic, Synch, Standard, Event, Strategy}
 use Rattle.table.specs.declared.Line.{Line as CodeLine}
-use Rattle.table.specs.Codes.{lineNo, kindOf, labels, labelNo, codes, codeNo}
+use Rattle.table.specs.Codes.{lineNo, kindOf, codes, codeNo}
 use Rattle.metafile.specs.Lines.{Line, width, i12, i4, table, chunkHeaderLength, subFormatID, genericType, timeSynchType, timeStandard, timeOffset, eventSynch, dependencyLength, dependencyCount, dependencySerial, dependencySubFormat, contentLength, multiHeaderLength, typeCount, subTypeLength, shortID, chunkSerial, recordingDate, recordingAgent, writingDate, writingAgent, checksum, formatID, separatorStrategy}
 use Rattle.laws.proofs.First.{and-both}
 
@@ -50,75 +50,72 @@ none-above i (suc n) g =
 pub last : (i : ℕ) → i < 24 → None i 23 → i ≡ 23
 last i h g = omega (arith, none-above i 23 g)
 
--- ---- the line that a code stands for
+-- ---- the line that a row of the code stands for
 
-lineOf : List ℕ → CodeLine → Line
-lineOf l c = record { label = take (c .long) l; kind = kindOf (c .kind) (c .width) }
+lineOf : CodeLine → Line
+lineOf c = record { label = take (c .long) (c .label); kind = kindOf (c .kind) (c .width) }
 
-joined : List (List ℕ) → List CodeLine → List Line
-joined [] cs = []
-joined (l ∷ ls) [] = []
-joined (l ∷ ls) (c ∷ cs) = lineOf l c ∷ joined ls cs
+linesFor : List CodeLine → List Line
+linesFor [] = []
+linesFor (c ∷ cs) = lineOf c ∷ linesFor cs
 
-joined-at : (ls : List (List ℕ)) (cs : List CodeLine) (i : ℕ) (d : Line) (e : CodeLine) → i < length ls → i < length cs
-    → getD (joined ls cs) i d ≡ lineOf (getD ls i []) (getD cs i e)
-unfolding joined
-joined-at [] cs i d e h k = absurd (omega arith)
-joined-at (l ∷ ls) [] i d e h k = absurd (omega arith)
-joined-at (l ∷ ls) (c ∷ cs) zero d e h k = refl
-joined-at (l ∷ ls) (c ∷ cs) (suc i) d e h k = joined-at ls cs i d e (omega arith) (omega arith)
+-- the row past the last
+abbrev none : CodeLine
+none = record { label = []; long = 0; width = 0; kind = Code.Number }
 
-tables : table ≡ joined labels codes
-unfolding table codes labels joined lineOf kindOf i12 i4 chunkHeaderLength subFormatID genericType timeSynchType timeStandard timeOffset eventSynch dependencyLength dependencyCount dependencySerial dependencySubFormat contentLength multiHeaderLength typeCount subTypeLength shortID chunkSerial recordingDate recordingAgent writingDate writingAgent checksum formatID separatorStrategy
+line-at : (cs : List CodeLine) (i : ℕ) (d : Line) → i < length cs → getD (linesFor cs) i d ≡ lineOf (getD cs i none)
+unfolding linesFor
+line-at [] i d h = absurd (omega arith)
+line-at (c ∷ cs) zero d h = refl
+line-at (c ∷ cs) (suc i) d h = line-at cs i d (omega arith)
+
+tables : table ≡ linesFor codes
+unfolding table codes linesFor lineOf kindOf i12 i4 chunkHeaderLength subFormatID genericType timeSynchType timeStandard timeOffset eventSynch dependencyLength dependencyCount dependencySerial dependencySubFormat contentLength multiHeaderLength typeCount subTypeLength shortID chunkSerial recordingDate recordingAgent writingDate writingAgent checksum formatID separatorStrategy
 tables = refl
 
 count-is : length codes ≡ 24
 unfolding codes
 count-is = refl
 
-labels-count : length labels ≡ 24
-unfolding labels
-labels-count = refl
+pub line-is : (i : ℕ) → i < 24 → lineNo i ≡ record { label = take (codeNo i .long) (codeNo i .label); kind = kindOf (codeNo i .kind) (codeNo i .width) }
+unfolding lineNo codeNo lineOf
+line-is i h = rw tables (line-at codes i checksum (omega (arith, count-is)))
 
-pub line-is : (i : ℕ) → i < 24 → lineNo i ≡ record { label = take (codeNo i .long) (labelNo i); kind = kindOf (codeNo i .kind) (codeNo i .width) }
-unfolding lineNo codeNo labelNo lineOf
-line-is i h =
-    rw tables (joined-at labels codes i checksum (record { long = 0; kind = Code.Number; width = 0 }) (omega (arith, labels-count)) (omega (arith, count-is)))
-
-pub label-part : (i : ℕ) → i < 24 → lineNo i .label ≡ take (codeNo i .long) (labelNo i)
+pub label-part : (i : ℕ) → i < 24 → lineNo i .label ≡ take (codeNo i .long) (codeNo i .label)
 label-part i h = ap (λ (l : Line). l .label) (line-is i h)
 
 pub kind-is : (i : ℕ) → i < 24 → lineNo i .kind ≡ kindOf (codeNo i .kind) (codeNo i .width)
 kind-is i h = ap (λ (l : Line). l .kind) (line-is i h)
 
--- ---- labels stand in the bytes that the code has for each
+-- a test that holds of every row holds of row i
+at-each : (p : CodeLine → Bool) → every p codes ≡ true → (i : ℕ) → i < 24 → p (codeNo i) ≡ true
+unfolding codeNo
+at-each p e i h = every-at p codes none e i (omega (arith, count-is))
+
+-- ---- labels stand in the bytes that the rows have for them
 
 inside : CodeLine → Bool
-inside c = leb (c .long) 38
+inside c = leb (c .long) 38 && eqb (length (c .label)) 38
 
 all-inside : every inside codes ≡ true
 unfolding every inside codes
 all-inside = refl
 
-pub label-fits : (i : ℕ) → i < 24 → codeNo i .long ≤ 38
-unfolding codeNo inside
-label-fits i h =
-    leb-true _ _ (every-at inside codes (record { long = 0; kind = Code.Number; width = 0 }) all-inside i (omega (arith, count-is)))
+module _ (i : ℕ) (h : i < 24) where
+  inside-at : (codeNo i .long ≤ 38) × (length (codeNo i .label) ≡ 38)
+  unfolding inside
+  inside-at =
+      let e = and-both _ _ (at-each inside all-inside i h) in
+      (leb-true _ _ (e .0), eqb-true _ _ (e .1))
 
-filled : List ℕ → Bool
-filled l = eqb (length l) 38
+  pub label-fits : codeNo i .long ≤ 38
+  label-fits = inside-at .0
 
-all-filled : every filled labels ≡ true
-unfolding every filled labels
-all-filled = refl
+  pub label-held : codeNo i .long ≤ length (codeNo i .label)
+  label-held = omega (arith, inside-at)
 
-pub labels-long : (i : ℕ) → i < 24 → length (labelNo i) ≡ 38
-unfolding labelNo filled
-labels-long i h = eqb-true _ _ (every-at filled labels [] all-filled i (omega (arith, labels-count)))
-
-pub label-long : (i : ℕ) → i < 24 → length (lineNo i .label) ≡ codeNo i .long
-label-long i h =
-    rw (label-part i h) (simp length-take (omega (arith, label-fits i h, labels-long i h)))
+  pub label-long : length (lineNo i .label) ≡ codeNo i .long
+  label-long = rw (label-part i h) (simp length-take (omega (arith, inside-at)))
 
 -- ---- the widths of the code are those of the kinds
 
@@ -130,10 +127,8 @@ unfolding every wide codes kindOf width genericType timeSynchType timeStandard e
 all-wide = refl
 
 pub width-is : (i : ℕ) → i < 24 → width (lineNo i .kind) ≡ codeNo i .width
-unfolding codeNo wide
-width-is i h =
-    rw (kind-is i h)
-    (eqb-true _ _ (every-at wide codes (record { long = 0; kind = Code.Number; width = 0 }) all-wide i (omega (arith, count-is))))
+unfolding wide
+width-is i h = rw (kind-is i h) (eqb-true _ _ (at-each wide all-wide i h))
 
 -- the widths are small, those of numbers at most 12
 most : Code → ℕ
@@ -158,9 +153,9 @@ all-narrow = refl
 
 module _ (i : ℕ) (h : i < 24) where
   narrow-at : (codeNo i .width ≤ most (codeNo i .kind)) × (codeNo i .width ≤ 256)
-  unfolding codeNo narrow
+  unfolding narrow
   narrow-at =
-      let e = and-both _ _ (every-at narrow codes (record { long = 0; kind = Code.Number; width = 0 }) all-narrow i (omega (arith, count-is))) in
+      let e = and-both _ _ (at-each narrow all-narrow i h) in
       (leb-true _ _ (e .0), leb-true _ _ (e .1))
 
   pub width-small : codeNo i .width ≤ 256

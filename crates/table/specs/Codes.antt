@@ -31,65 +31,34 @@ kindOf Standard w = timeStandard .kind
 kindOf Event w = eventSynch .kind
 kindOf Strategy w = strategy
 
--- the code's constants
-unfoldable pub labels : List (List ℕ)
-labels =
-    bytes "Chunk_Header_Length=                  "
-    ∷ bytes "SubFormat_ID=                         "
-    ∷ bytes "Generic_Type=                         "
-    ∷ bytes "Chunk_Time_Synch_Type=                "
-    ∷ bytes "Chunk_Time_Standard=                  "
-    ∷ bytes "Chunk_Time_Offset=                    "
-    ∷ bytes "Chunk_Event_Synch=                    "
-    ∷ bytes "Chunk_Dependency_Length=              "
-    ∷ bytes "Chunk_Dependency_Count=               "
-    ∷ bytes "Dependency_Serial_Number=             "
-    ∷ bytes "Dependency_SubFormatID=               "
-    ∷ bytes "Chunk_Content_Length=                 "
-    ∷ bytes "Multi_Chunk_Header_Length=            "
-    ∷ bytes "MiniChunk_Type_Count=                 "
-    ∷ bytes "SubType_Header_Length=                "
-    ∷ bytes "SubFormat_Short_ID=                   "
-    ∷ bytes "Chunk_Serial_Number=                  "
-    ∷ bytes "Chunk_Recording_Date=                 "
-    ∷ bytes "Chunk_Recording_Agent=                "
-    ∷ bytes "Chunk_Writing_Date=                   "
-    ∷ bytes "Chunk_Writing_Agent=                  "
-    ∷ bytes "Chunk_Integrity_Checksum=             "
-    ∷ bytes "Format_ID=Ancillary Data Standard 1.00"
-    ∷ bytes "Separator_Strategy=                   "
-    ∷ []
-
+-- the code's table
 unfoldable pub codes : List CodeLine
 codes =
-    record { long = 20; kind = Number; width = 12 }
-    ∷ record { long = 13; kind = Text; width = 256 }
-    ∷ record { long = 13; kind = Generic; width = 3 }
-    ∷ record { long = 22; kind = Synch; width = 3 }
-    ∷ record { long = 20; kind = Standard; width = 41 }
-    ∷ record { long = 18; kind = Offset; width = 16 }
-    ∷ record { long = 18; kind = Event; width = 41 }
-    ∷ record { long = 24; kind = Number; width = 12 }
-    ∷ record { long = 23; kind = Number; width = 4 }
-    ∷ record { long = 25; kind = Serial; width = 38 }
-    ∷ record { long = 23; kind = Text; width = 256 }
-    ∷ record { long = 21; kind = Number; width = 12 }
-    ∷ record { long = 26; kind = Number; width = 12 }
-    ∷ record { long = 21; kind = Number; width = 4 }
-    ∷ record { long = 22; kind = Number; width = 12 }
-    ∷ record { long = 19; kind = Text; width = 10 }
-    ∷ record { long = 20; kind = Serial; width = 38 }
-    ∷ record { long = 21; kind = Date; width = 8 }
-    ∷ record { long = 22; kind = Text; width = 32 }
-    ∷ record { long = 19; kind = Date; width = 8 }
-    ∷ record { long = 20; kind = Text; width = 32 }
-    ∷ record { long = 25; kind = Checksum; width = 3 }
-    ∷ record { long = 38; kind = Text; width = 0 }
-    ∷ record { long = 19; kind = Strategy; width = 6 }
+    record { label = bytes "Chunk_Header_Length=                  "; long = 20; width = 12; kind = Number }
+    ∷ record { label = bytes "SubFormat_ID=                         "; long = 13; width = 256; kind = Text }
+    ∷ record { label = bytes "Generic_Type=                         "; long = 13; width = 3; kind = Generic }
+    ∷ record { label = bytes "Chunk_Time_Synch_Type=                "; long = 22; width = 3; kind = Synch }
+    ∷ record { label = bytes "Chunk_Time_Standard=                  "; long = 20; width = 41; kind = Standard }
+    ∷ record { label = bytes "Chunk_Time_Offset=                    "; long = 18; width = 16; kind = Offset }
+    ∷ record { label = bytes "Chunk_Event_Synch=                    "; long = 18; width = 41; kind = Event }
+    ∷ record { label = bytes "Chunk_Dependency_Length=              "; long = 24; width = 12; kind = Number }
+    ∷ record { label = bytes "Chunk_Dependency_Count=               "; long = 23; width = 4; kind = Number }
+    ∷ record { label = bytes "Dependency_Serial_Number=             "; long = 25; width = 38; kind = Serial }
+    ∷ record { label = bytes "Dependency_SubFormatID=               "; long = 23; width = 256; kind = Text }
+    ∷ record { label = bytes "Chunk_Content_Length=                 "; long = 21; width = 12; kind = Number }
+    ∷ record { label = bytes "Multi_Chunk_Header_Length=            "; long = 26; width = 12; kind = Number }
+    ∷ record { label = bytes "MiniChunk_Type_Count=                 "; long = 21; width = 4; kind = Number }
+    ∷ record { label = bytes "SubType_Header_Length=                "; long = 22; width = 12; kind = Number }
+    ∷ record { label = bytes "SubFormat_Short_ID=                   "; long = 19; width = 10; kind = Text }
+    ∷ record { label = bytes "Chunk_Serial_Number=                  "; long = 20; width = 38; kind = Serial }
+    ∷ record { label = bytes "Chunk_Recording_Date=                 "; long = 21; width = 8; kind = Date }
+    ∷ record { label = bytes "Chunk_Recording_Agent=                "; long = 22; width = 32; kind = Text }
+    ∷ record { label = bytes "Chunk_Writing_Date=                   "; long = 19; width = 8; kind = Date }
+    ∷ record { label = bytes "Chunk_Writing_Agent=                  "; long = 20; width = 32; kind = Text }
+    ∷ record { label = bytes "Chunk_Integrity_Checksum=             "; long = 25; width = 3; kind = Checksum }
+    ∷ record { label = bytes "Format_ID=Ancillary Data Standard 1.00"; long = 38; width = 0; kind = Text }
+    ∷ record { label = bytes "Separator_Strategy=                   "; long = 19; width = 6; kind = Strategy }
     ∷ []
 
 unfoldable pub codeNo : ℕ → CodeLine
-codeNo i = getD codes i (record { long = 0; kind = Number; width = 0 })
-
-unfoldable pub labelNo : ℕ → List ℕ
-labelNo i = getD labels i []
+codeNo i = getD codes i (record { label = []; long = 0; width = 0; kind = Number })

@@ -4,10 +4,14 @@
 --     Steps     the steps of a reading: places, rows, where it stops, a reading into n rows
 --     Index     the index of serial numbers
 --     Loops     what the functions over the steps need
+--     Cursors   the cursor over the rows
+--     Named     the row of a number
 --     Notes     the values of the rows named, in a survey
 pub mod Stages
 pub mod Serials
 pub mod Steps
 pub mod Index
 pub mod Loops
+pub mod Cursors
+pub mod Named
 pub mod Notes

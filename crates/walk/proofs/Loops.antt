@@ -1,8 +1,7 @@
 -- What the functions over the steps need of the reading: a chunk read at a place, one turn of a loop, each answer.
 --     given-..          the chunk and its serial number, from the parts of the file that are handed on
 --     turn              from one row to the next
---     step-..           the answers of a step; going halted: what a step's answer says
---     found-..          the answers of the walk to a row
+--     step-..           the answers of a step
 --     seen-passed with-there   the serial number of the chunk of a row, compared
 --     among-.. numbered-..     the answers on a serial number
 -- Assumes nothing.
@@ -15,7 +14,7 @@ use native.Mathlib.Numerals.{add-one}
 use lib.Dec.{ltb}
 use lib.ListN.{length, take, drop, length-drop}
 use lib.Seq.{drop-length}
-use borrow.Author.Tests.{lt-ltb, le-ltb, ltb-true, ltb-false, not-true, not-false}
+use borrow.Author.Tests.{lt-ltb, le-ltb, ltb-true}
 use Rattle.metafile.specs.Bytes.{_⊳_, require, isEmpty}
 use Rattle.metafile.specs.Fields.{sameSerial, known}
 use Rattle.metafile.specs.Header.{isLLC, markLength, markOf, headerFault}
@@ -28,10 +27,9 @@ use Rattle.laws.proofs.Loops.{part-drop}
 use Rattle.chunk_laws.proofs.Rows.{some-bytes}
 use Rattle.chunk_laws.proofs.File.{file-few}
 use Rattle.chunk.specs.declared.parts.Layout.{Layout}
-use Rattle.walk.specs.declared.answers.Step.{Step}
 use Rattle.walk.specs.declared.answers.Numbered.{Numbered}
 use Rattle.chunk.specs.Layout.{layoutOf, partsOf, faulty, WholeLayout}
-use Rattle.walk.specs.Walk.{placeAfter, chunkAt, noLayout, stopWith, stepOf, foundAt, numberedOf, amongOf}
+use Rattle.walk.specs.Walk.{placeAfter, chunkAt, stopWith, stepOf, numberedOf, amongOf}
 use Rattle.walk.proofs.Stages.{mark-part}
 use Rattle.walk.proofs.Steps.{serialsPast, restAfter, faultAfter, Stopped, after-cases, row-place, row-serial, row-unfaulted, place-suc, place-fits}
 use Rattle.walk.proofs.Serials.{known-past, known-more, with-here, with-least, known-with}
@@ -189,47 +187,6 @@ module _ (file : List ℕ) (e : headerFault file ≡ 0) where
           unfolding stepOf
           step-new y = rw (lt-ltb i (length (rowsOf file)) (go-with (no-fault y)), is, p)
 
-  -- what a step's answer says
-  pub record Halted (i number : ℕ) (l : Layout) : Type 0 where
-    pub past : length (rowsOf file) ≤ i
-    pub number-is : number ≡ reading file .number
-    pub layout-is : l ≡ noLayout
-
-  step-cases : {A : Type 0} (i : ℕ) (s : Step) → s ≡ stepOf file i
-      → (i < length (rowsOf file) → s ≡ record { go = true; number = 0; layout = chunkAt file (placeAfter file i) } → A)
-      → (length (rowsOf file) ≤ i → s ≡ stopWith (reading file .number) → A)
-      → A
-  unfolding stepOf
-  step-cases i s is goes halts =
-      test (ltb i (length (rowsOf file)))
-      (λ q. goes (ltb-true i _ q) (rw q at is))
-      (λ q. halts (ltb-false i _ q) (rw q at is))
-
-  pub going : (i at : ℕ) (s : Step) → s ≡ stepOf file i → at ≡ placeAfter file i → not (s .go) ≡ false → Turn file i at (s .layout)
-  unfolding stopWith
-  going i at s is p y =
-      step-cases i s is
-      (λ h q. turn i at (s .layout) h p (rw p (ap (λ (x : Step). x .layout) q)))
-      (λ h q. untrue (sym (ap (λ (x : Step). x .go) q) ∙ not-false (s .go) y))
-
-  pub halted : (i : ℕ) (s : Step) → s ≡ stepOf file i → not (s .go) ≡ true → Halted i (s .number) (s .layout)
-  unfolding stopWith
-  halted i s is y =
-      step-cases i s is
-      (λ h q. untrue (sym (not-true (s .go) y) ∙ ap (λ (x : Step). x .go) q))
-      (λ h q. record { past = h; number-is = ap (λ (x : Step). x .number) q; layout-is = ap (λ (x : Step). x .layout) q })
-
-  -- ---- the answers of the walks
-
-  pub found-none : (i k number : ℕ) (l : Layout) → Halted i number l → i ≤ k → record { there = false; place = 0; layout = l } ≡ foundAt file k
-  unfolding foundAt
-  found-none i k number l w h = rw (le-ltb k (length (rowsOf file)) (omega (arith, w .past)), w .layout-is)
-
-  pub found-here : (i k at : ℕ) (l : Layout) → Turn file i at l → at ≡ placeAfter file i → i ≡ k → record { there = true; place = at; layout = l } ≡ foundAt file k
-  unfolding foundAt
-  found-here i k at l w p q =
-      rw (sym q, lt-ltb i (length (rowsOf file)) (w .row), row-place file e i (w .row), sym p, w .layout-is)
-
 -- ---- the serial number of the chunk of row j
 
 module _ (x file : List ℕ) (e : headerFault file ≡ 0) (j at : ℕ) (h : j < length (rowsOf file)) (p : at ≡ placeAfter file j)
@@ -271,13 +228,6 @@ module _ (x file : List ℕ) (i : ℕ) (h : i ≤ length (rowsOf file)) (r : Num
   pub among-known : r .there ≡ known x (serialsOf (take i (rowsOf file)))
   unfolding amongOf
   among-known = ap (λ (y : Numbered). y .there) is ∙ known-with x (rowsOf file) i h
-
-  pub among-passed : r .there ≡ false → (r .place ≡ placeAfter file i) × (known x (serialsOf (take i (rowsOf file))) ≡ false)
-  unfolding amongOf
-  among-passed y =
-      let none : known x (serialsOf (take i (rowsOf file))) ≡ false = sym among-known ∙ y in
-      let least : min (rowWith x (rowsOf file)) i ≡ i = omega (arith, with-least x (rowsOf file) i h none) in
-      (ap (λ (y : Numbered). y .place) is ∙ rw least, none)
 
   pub among-there : headerFault file ≡ 0 → r .there ≡ true → r ≡ numberedOf file x
   unfolding amongOf numberedOf

@@ -1,7 +1,8 @@
 -- The values of the rows named, noted row by row (specs/Survey).
 --     note-..     one turn of the loop over the values, and its end
 --     values-..   the values of the rows below i: none, how many, one row more
---     survey-..   the survey of a file whose header is faulty, and of one read to its end
+--     known-..    a serial number in no row, and in any of all rows
+--     survey-..   a row passed, and the survey where a cursor stops
 -- Assumes nothing.
 use Prim.Native.Nat.{ℕ, zero, suc, _+_, _≤_, _<_}
 use mathlib.Core.Bool.{Bool, false, cond}
@@ -13,17 +14,17 @@ use lib.Dec.{ltb, eqb}
 use lib.ListN.{length, take, drop, set, getD, replicate, length-set, take-append-drop, drop-of-length-le}
 use lib.Seq.{take-all, drop-cons, take-suc, take-suc-set, drop-set-lt}
 use borrow.Author.Tests.{eqb-true, eqb-false, eq-eqb, ne-eqb, lt-ltb, le-ltb, ltb-true, ltb-false}
+use Rattle.metafile.specs.declared.Row.{Row}
 use Rattle.metafile.specs.Fields.{known}
-use Rattle.metafile.specs.Header.{headerFault, headerGood}
-use Rattle.metafile.specs.Reading.{halt, withHeader, reading, rowsOf, serialsOf}
+use Rattle.metafile.specs.Header.{headerFault}
+use Rattle.metafile.specs.Reading.{reading, rowsOf, serialsOf}
 use Rattle.metafile.specs.Append.{rowNo}
 use Rattle.laws.proofs.First.{test}
-use Rattle.chunk_laws.proofs.File.{good-begun, rows-unbegun, read-unbegun}
-use Rattle.chunk.specs.declared.parts.Layout.{Layout}
+use Rattle.walk.specs.declared.cursor.Cursor.{Cursor}
 use Rattle.walk.specs.Walk.{placeAfter}
 use Rattle.walk.specs.Survey.{valuesBelow, noted, surveyOf}
-use Rattle.walk.proofs.Steps.{row-place, row-end, stop-is}
-use Rattle.walk.proofs.Loops.{Halted}
+use Rattle.walk.proofs.Steps.{row-place, row-end}
+use Rattle.walk.proofs.Cursors.{Stops}
 
 -- ---- noted, value by value
 
@@ -118,22 +119,6 @@ placeNo file k = rowNo (rowsOf file) k .place
 abbrev pub endNo : List ℕ → ℕ → ℕ
 endNo file k = rowNo (rowsOf file) k .end
 
-pub survey-unbegun : (file x ks : List ℕ) (n : ℕ) → n ≡ headerFault file → (n ≡ 0 → ⊥)
-    → record {
-      count = 0;
-      stop = 0;
-      number = n;
-      good = false;
-      known = false;
-      places = replicate 16 0;
-      ends = replicate 16 0;
-    }
-    ≡ surveyOf file x ks
-unfolding surveyOf reading withHeader halt known serialsOf
-survey-unbegun file x ks n is y =
-    let e : headerFault file ≡ 0 → ⊥ = λ q. y (is ∙ q) in
-    rw (rows-unbegun file e, read-unbegun (length file) file e, is, ← values-none 16 (λ (k : ℕ). rowNo [] k .place) ks, ← values-none 16 (λ (k : ℕ). rowNo [] k .end) ks)
-
 module _ (file : List ℕ) (e : headerFault file ≡ 0) (ks : List ℕ) (i : ℕ) where
   module _ (h : i < length (rowsOf file)) (values after : List ℕ) (v : ℕ) (noted-is : after ≡ noted i v values ks) where
     pub survey-place : v ≡ placeAfter file i → values ≡ valuesBelow 16 (placeNo file) i ks → after ≡ valuesBelow 16 (placeNo file) (i + 1) ks
@@ -146,21 +131,26 @@ module _ (file : List ℕ) (e : headerFault file ≡ 0) (ks : List ℕ) (i : ℕ
         let here : v ≡ endNo file i = p ∙ rw add-one (sym (row-end file e i h)) in
         noted-is ∙ rw (here, is) (values-next 16 (endNo file) i ks)
 
-  pub survey-halted : (x : List ℕ) (at number : ℕ) (l : Layout) (good b : Bool) (places ends : List ℕ) → Halted file e i number l → i ≤ length (rowsOf file)
-      → at ≡ placeAfter file i → good ≡ headerGood file → b ≡ known x (serialsOf (take i (rowsOf file)))
-      → places ≡ valuesBelow 16 (placeNo file) i ks → ends ≡ valuesBelow 16 (endNo file) i ks
-      → record {
-        count = i;
-        stop = at;
-        number = number;
-        good = good;
-        known = b;
-        places = places;
-        ends = ends;
-      }
-      ≡ surveyOf file x ks
-  unfolding surveyOf
-  survey-halted x at number l good b places ends w h p g k ps es =
-      let count : length (rowsOf file) ≡ i = omega (arith, w .past) in
-      let whole : take i (rowsOf file) ≡ rowsOf file = take-all i (rowsOf file) (w .past) in
-      rw (stop-is file e, count, good-begun file e, p, g, w .number-is, ps, es, k, whole)
+-- a cursor stops behind the last row
+pub survey-stopped : {file : List ℕ} {c : Cursor} → Stops file c → (x ks : List ℕ) (b : Bool) (places ends : List ℕ) → b ≡ known x (serialsOf (rowsOf file))
+    → places ≡ valuesBelow 16 (placeNo file) (c .row) ks → ends ≡ valuesBelow 16 (endNo file) (c .row) ks
+    → record {
+      count = c .row;
+      stop = c .at;
+      number = c .number;
+      good = c .header .good;
+      known = b;
+      places = places;
+      ends = ends;
+    }
+    ≡ surveyOf file x ks
+unfolding surveyOf
+survey-stopped w x ks b places ends k ps es = rw (w .count, w .stop, w .number-is, w .good-is, k, ps, es)
+
+-- a serial number, in no row and in any
+pub known-nowhere : (x : List ℕ) {rows : List Row} → rows ≡ [] → false ≡ known x (serialsOf rows)
+unfolding known serialsOf
+known-nowhere x e = rw e
+
+pub known-everywhere : (x : List ℕ) (rows : List Row) (n : ℕ) → length rows ≡ n → known x (serialsOf (take n rows)) ≡ known x (serialsOf rows)
+known-everywhere x rows n e = rw (take-all n rows (omega arith))

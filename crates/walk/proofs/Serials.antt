@@ -22,13 +22,9 @@ use Rattle.metafile.specs.Chunk.{closingPlace, chunkEnd, serialOf, rowAt}
 use Rattle.metafile.specs.Reading.{serialsOf}
 use Rattle.metafile.specs.Append.{noRow, rowNo}
 use Rattle.metafile.specs.Calls.{rowWith}
-use Rattle.laws.proofs.First.{test, untrue, or-false}
+use Rattle.laws.proofs.First.{test, untrue, or-false, or-none}
 use Rattle.chunk_laws.proofs.Rows.{past}
 use Rattle.chunk_laws.proofs.Places.{Placed, placed-end}
-
-or-none : (a : Bool) → (a || false) ≡ a
-or-none true = refl
-or-none false = refl
 
 or-assoc : (a b c : Bool) → (a || (b || c)) ≡ ((a || b) || c)
 or-assoc true b c = refl

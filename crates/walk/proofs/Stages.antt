@@ -1,6 +1,5 @@
 -- The file header's stages, as the functions answer them ("File header"; "1 first 65 bytes don't match", "2 NUL000",
 -- "3 mark begins "MiniChunk="", "4 bytes end too soon").
---     sum-is      the sum of the 65 bytes, the mark and the integrity data
 --     title-..    the first 65 bytes; mark-..: the mark as a field; stage-..: the header's first fault
 --     header-..   what the header answers; HeaderIs: one without a fault
 -- Assumes nothing.
@@ -26,16 +25,6 @@ use Rattle.chunk_laws.proofs.File.{header-whole, length-mark, fits-headerEnd}
 use Rattle.walk.specs.declared.answers.Header.{Header}
 use Rattle.lines.specs.Words.{wordNo}
 use Rattle.walk.specs.Walk.{headerOf}
-
--- ---- the sum
-
--- the sum's three digits, and the sum of the bytes before them
-pub sum-is : (m s : List ℕ) (at n t : ℕ) → n ≡ countValue (take (at + length m + 250 + 3 - (at + length m + 250)) (drop (at + length m + 250) s))
-    → t ≡ sum (take (at + length m + 250) s) → eqb n t ≡ sumGood at m s
-unfolding sumGood sumPlace
-sum-is m s at n t count total =
-    let three : at + length m + 250 + 3 - (at + length m + 250) ≡ 3 = omega arith in
-    rw (count, total, three)
 
 -- ---- the first 65 bytes
 

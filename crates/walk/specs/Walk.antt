@@ -1,5 +1,5 @@
 -- What the functions of this crate answer, by the definitions of the crate metafile: the file header, one step of the
--- reading ("Reading"), and a row by its number or by its serial number. Assumes nothing.
+-- reading ("Reading"), and a row by its serial number. Assumes nothing.
 use Prim.Native.Nat.{ℕ, zero, suc, min}
 use mathlib.Core.Bool.{true, false, cond}
 use mathlib.Core.List.{List}
@@ -15,7 +15,6 @@ use Rattle.chunk.specs.declared.parts.Layout.{Layout}
 use Rattle.chunk.specs.Layout.{layoutOf}
 use Rattle.walk.specs.declared.answers.Header.{Header}
 use Rattle.walk.specs.declared.answers.Step.{Step}
-use Rattle.walk.specs.declared.answers.Found.{Found}
 use Rattle.walk.specs.declared.answers.Numbered.{Numbered}
 
 -- the file header: its first fault, or where it ends, the mark's length, the strategy, sum good or not
@@ -52,13 +51,6 @@ stepOf file i =
     cond (ltb i (length (rowsOf file)))
     (record { go = true; number = 0; layout = chunkAt file (placeAfter file i) })
     (stopWith (reading file .number))
-
--- row k, from 0: its place and its chunk, where there is such a row
-unfoldable pub foundAt : List ℕ → ℕ → Found
-foundAt file k =
-    cond (ltb k (length (rowsOf file)))
-    (record { there = true; place = rowNo (rowsOf file) k .place; layout = chunkAt file (rowNo (rowsOf file) k .place) })
-    (record { there = false; place = 0; layout = noLayout })
 
 -- the row with a serial number, and its place, where there is such a row
 unfoldable pub numberedOf : List ℕ → List ℕ → Numbered

@@ -19,12 +19,6 @@ pub struct Step {
     pub layout: Layout,
 }
 
-pub struct Found {
-    pub there: bool,
-    pub place: usize,
-    pub layout: Layout,
-}
-
 // A row by its serial number; what row and place are where there is none, each function says.
 pub struct Numbered {
     pub there: bool,

@@ -14,11 +14,14 @@ use crate::rows::serial_at;
 // The largest count that an entry holds.
 const LAST: usize = 4294967295;
 
+// Entries of an index.
+pub const INDEX: usize = 200705;
+
 // An index in which nothing is entered.
-pub fn empty_index() -> [u32; 200705]
+pub fn empty_index() -> [u32; INDEX]
     ensures { λ r. ⌜ r ≡ replicate 200705 0 ⌝ }
 {
-    [0; 200705]
+    [0; INDEX]
 }
 
 // The row with a serial number among the first i rows; where there is none, i and where the last of them ends.

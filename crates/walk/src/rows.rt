@@ -5,12 +5,14 @@ ghost use lib.ListN.{length, drop};
 ghost use Rattle.metafile.specs.Header.{isLLC, markOf};
 ghost use Rattle.metafile.specs.Chunk.{chunkFault, serialOf};
 ghost use Rattle.metafile.specs.Reading.{rowsOf};
-ghost use Rattle.walk.specs.Walk.{headerOf, placeAfter, chunkAt, stopWith, stepOf};
+ghost use Rattle.walk.specs.Walk.{headerOf, placeAfter, chunkAt, noLayout, stopWith, stepOf};
 ghost use Rattle.walk.specs.Index.{Indexed};
 use crate::answers::Header;
 use crate::answers::Step;
 use crate::earlier::met;
 use chunk::Layout;
+use metafile::refusals;
+use table::places::MARK;
 
 // The chunk at a place of the file.
 pub fn chunk_at(file: &[u8], h: Header, at: usize) -> Layout
@@ -19,8 +21,8 @@ pub fn chunk_at(file: &[u8], h: Header, at: usize) -> Layout
     requires { ⌜ at ≤ length (now file) ⌝ }
     ensures { λ r. ⌜ r ≡ chunkAt (now (file .entry)) at ⌝ }
 {
-    let end = 65 + h.mark;
-    chunk::layout(&file[at..], h.llc, &file[65..end])
+    let end = MARK + h.mark;
+    chunk::layout(&file[at..], h.llc, &file[MARK..end])
 }
 
 // The chunk at a place of the file where a whole one is known to stand.
@@ -31,8 +33,8 @@ pub fn known_chunk(file: &[u8], h: Header, at: usize) -> Layout
     requires { ⌜ chunkFault (isLLC (now file)) (markOf (now file)) (drop at (now file)) ≡ 0 ⌝ }
     ensures { λ r. ⌜ r ≡ chunkAt (now (file .entry)) at ⌝ }
 {
-    let end = 65 + h.mark;
-    chunk::parts_of(&file[at..], h.llc, &file[65..end])
+    let end = MARK + h.mark;
+    chunk::parts_of(&file[at..], h.llc, &file[MARK..end])
 }
 
 // The serial number of the whole chunk at a place of the file.
@@ -44,15 +46,15 @@ pub fn serial_at(file: &[u8], h: Header, at: usize, l: Layout) -> [u8; 38]
     requires { ⌜ l .number ≡ 0 ⌝ }
     ensures { λ r. ⌜ r ≡ serialOf (markOf (now (file .entry))) (drop at (now (file .entry))) ⌝ }
 {
-    let end = 65 + h.mark;
-    chunk::chunk_serial(&file[at..], &file[65..end], l)
+    let end = MARK + h.mark;
+    chunk::chunk_serial(&file[at..], &file[MARK..end], l)
 }
 
-// The reading stops with this number.
-fn stopped(number: u8) -> Step
-    ensures { λ r. ⌜ r ≡ stopWith number ⌝ }
+// The parts of no chunk.
+pub fn no_layout() -> Layout
+    ensures { λ r. ⌜ r ≡ noLayout ⌝ }
 {
-    let layout = Layout {
+    Layout {
         number: 0,
         header: 0,
         contents: 0,
@@ -60,7 +62,14 @@ fn stopped(number: u8) -> Step
         end: 0,
         dependencies: 0,
         multichunk: false,
-    };
+    }
+}
+
+// The reading stops with this number.
+fn stopped(number: u8) -> Step
+    ensures { λ r. ⌜ r ≡ stopWith number ⌝ }
+{
+    let layout = no_layout();
     Step {
         go: false,
         number,
@@ -86,7 +95,7 @@ pub fn step(file: &[u8], h: Header, at: usize, i: usize, index: &mut [u32]) -> S
         return stopped(l.number);
     }
     if met(file, h, i, index, serial_at(file, h, at, l)) {
-        return stopped(9);
+        return stopped(refusals::KNOWN_SERIAL);
     }
     Step {
         go: true,

@@ -1,12 +1,16 @@
 // The survey of a file for one that is to be appended to: one reading of the file.
+ghost use mathlib.Core.Bool.{false};
 ghost use mathlib.Core.Path.{_≡_};
-ghost use Rattle.walk.specs.Walk.{headerOf};
+ghost use Rattle.metafile.specs.Fields.{known};
+ghost use Rattle.metafile.specs.Reading.{rowsOf, serialsOf};
+ghost use Rattle.walk.specs.Cursor.{At};
 ghost use Rattle.walk.specs.Survey.{noted, surveyOf};
-use crate::answers::Header;
 use crate::answers::Survey;
+use crate::cursor::Cursor;
+use crate::cursor::first;
+use crate::cursor::next;
+use crate::earlier::INDEX;
 use crate::earlier::seen;
-use crate::headers::header;
-use crate::rows::step;
 
 // Puts a value wherever row i is named: the values stand in the order of the rows named.
 fn note(values: &mut [usize], rows: &[usize], i: usize, value: usize)
@@ -24,36 +28,17 @@ fn note(values: &mut [usize], rows: &[usize], i: usize, value: usize)
     }
 }
 
-// The survey behind a whole file header.
-fn survey_rows(file: &[u8], h: Header, serial: [u8; 38], parents: &[usize]) -> Survey
-    requires { ⌜ h ≡ headerOf (now file) ⌝ }
-    requires { ⌜ h .number ≡ 0 ⌝ }
-    ensures { λ r. ⌜ r ≡ surveyOf (now (file .entry)) serial (now (parents .entry)) ⌝ }
+// Whether a serial number is in a row, where a cursor stops.
+fn known_in(file: &[u8], c: Cursor, index: &[u32], serial: [u8; 38]) -> bool
+    requires { ⌜ At (now file) c (now index) ⌝ }
+    requires { ⌜ c .go ≡ false ⌝ }
+    ensures { λ r. ⌜ r ≡ known serial (serialsOf (rowsOf (now (file .entry)))) ⌝ }
 {
-    let mut index = [0u32; 200705];
-    let mut places = [0usize; 16];
-    let mut ends = [0usize; 16];
-    let mut at = h.end;
-    let mut i: usize = 0;
-    loop {
-        let s = step(file, h, at, i, &mut index);
-        if !s.go {
-            return Survey {
-                count: i,
-                stop: at,
-                number: s.number,
-                good: h.good,
-                known: seen(file, h, i, &index, serial),
-                places,
-                ends,
-            };
-        }
-        let end = at + s.layout.end;
-        note(&mut places, parents, i, at);
-        note(&mut ends, parents, i, end);
-        at = end;
-        i += 1;
+    let h = c.header;
+    if h.number != 0 {
+        return false;
     }
+    seen(file, h, c.row, index, serial)
 }
 
 // The reading with rows enough, whether a serial number is in a row, and where the rows named as parents begin and end: of
@@ -61,17 +46,22 @@ fn survey_rows(file: &[u8], h: Header, serial: [u8; 38], parents: &[usize]) -> S
 pub fn survey(file: &[u8], serial: [u8; 38], parents: &[usize]) -> Survey
     ensures { λ r. ⌜ r ≡ surveyOf (now (file .entry)) serial (now (parents .entry)) ⌝ }
 {
-    let h = header(file);
-    if h.number != 0 {
-        return Survey {
-            count: 0,
-            stop: 0,
-            number: h.number,
-            good: false,
-            known: false,
-            places: [0; 16],
-            ends: [0; 16],
-        };
+    let mut index = [0u32; INDEX];
+    let mut places = [0usize; 16];
+    let mut ends = [0usize; 16];
+    let mut c = first(file, &mut index);
+    while c.go {
+        note(&mut places, parents, c.row, c.at);
+        note(&mut ends, parents, c.row, c.at + c.layout.end);
+        c = next(file, c, &mut index);
     }
-    survey_rows(file, h, serial, parents)
+    Survey {
+        count: c.row,
+        stop: c.at,
+        number: c.number,
+        good: c.header.good,
+        known: known_in(file, c, &index, serial),
+        places,
+        ends,
+    }
 }

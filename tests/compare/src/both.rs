@@ -70,6 +70,8 @@ impl Run {
         let proved = self.proved(file, || ffi::read(file, &mut table));
         let mut rows = vec![BLANK; room];
         let plain = plain::read(file, &mut rows);
+        let clean = ffi::is_clean(proved, file.len());
+        self.same(|| format!("clean, read into {room} rows"), clean, plain.is_clean(file.len()), file, plain.stop);
         let proved = Reading { count: proved.count, stop: proved.stop, good: proved.good, number: proved.number };
         self.same(|| format!("read into {room} rows"), proved, plain, file, plain.stop);
         for (number, row) in rows[..plain.count].iter().enumerate() {

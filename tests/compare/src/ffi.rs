@@ -116,6 +116,7 @@ mod c {
             written: *const [u8; 8], writer: *const u8, writer_length: usize,
             buffer: *mut u8, buffer_length: usize) -> Written;
         pub fn ads_read(file: *const u8, length: usize, rows: *mut Row, room: usize) -> Reading;
+        pub fn ads_is_clean(reading: Reading, length: usize) -> bool;
         pub fn ads_parent(file: *const u8, length: usize, row: usize, dependency: usize) -> ParentAnswer;
         pub fn ads_append(buffer: *mut u8, buffer_length: usize, length: usize, description: Description,
             parents: *const usize, parent_count: usize, specific: *const u8, specific_length: usize,
@@ -241,6 +242,10 @@ pub fn begin(given: &Beginning, buffer: &mut [u8]) -> Written {
 
 pub fn read(file: &[u8], table: &mut Table) -> Reading {
     lent(file, |file| unsafe { c::ads_read(file.as_ptr(), file.len(), table.as_mut_ptr(), table.room()) })
+}
+
+pub fn is_clean(reading: Reading, length: usize) -> bool {
+    unsafe { c::ads_is_clean(reading, length) }
 }
 
 pub fn parent(file: &[u8], row: usize, dependency: usize) -> ParentAnswer {

@@ -4,7 +4,7 @@ use crate::chunk::{find, Chunk, DEPENDENCY_BYTES, HEADER_BYTES};
 use crate::description::{Checked, Description};
 use crate::header::{Header, INTEGRITY_BYTES};
 use crate::number::*;
-use crate::reading::Chunks;
+use crate::reading::{Chunks, Reading};
 use crate::writer::Writer;
 
 /// "Three writes, each on disk before the next: header with content length line; data; closing. The answer is the three
@@ -78,12 +78,22 @@ pub fn append(
     Ok(Ends { first: length + first, second: length + second, third: length + third })
 }
 
-/// "Clean means number 0 and stop at the file's end." The mark, whether NUL, and the rows of a clean file.
+/// The mark, whether NUL, and the rows of a clean file.
 fn clean(file: &[u8]) -> Option<(&[u8], bool, Vec<Chunk<'_>>)> {
     let header = Header::read(file).ok()?;
     let (mark, nul) = (header.mark, header.nul);
-    let rows: Result<Vec<Chunk>, u8> = Chunks::new(file, header).collect();
-    Some((mark, nul, rows.ok()?))
+    let mut reading = Reading { count: 0, stop: header.end, good: false, number: 0 };
+    let mut rows = Vec::new();
+    for chunk in Chunks::new(file, header) {
+        match chunk {
+            Ok(chunk) => {
+                reading.stop = chunk.end;
+                rows.push(chunk);
+            }
+            Err(number) => reading.number = number,
+        }
+    }
+    reading.is_clean(file.len()).then_some((mark, nul, rows))
 }
 
 /// The chunks of the rows named; none if "row not in the reading; parents repeated or over 16".

@@ -32,6 +32,13 @@ pub struct Reading {
     pub number: u8,
 }
 
+impl Reading {
+    /// "Clean means number 0 and stop at the file's end": of a file of so many bytes.
+    pub fn is_clean(&self, length: usize) -> bool {
+        self.number == 0 && self.stop == length
+    }
+}
+
 /// The chunks behind a whole header, up to the first fault, which comes last: each whole, its serial number in no row
 /// before it.
 pub struct Chunks<'a> {

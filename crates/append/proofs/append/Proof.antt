@@ -6,11 +6,12 @@ use mathlib.Core.Path.{_≡_, sym, _∙_}
 use native.Mathlib.Omega.{arith}
 use lib.Seq.{length-take-le}
 use borrow.Author.Needs.{needs}
-use Rattle.metafile.specs.Answers.{appendAnswer}
-use Rattle.metafile.specs.Append.{Given, appendOverLimit}
+use Rattle.metafile.specs.Answers.{Test, appendAnswer}
+use Rattle.metafile.specs.Append.{Given, appendOverLimit, appendTests, append}
+use Rattle.laws.proofs.Outcomes.{outcome-refused}
 use Rattle.append.specs.Given.{givenOf}
 use Rattle.append.proofs.Refusals.{inside, refused-11}
-use Rattle.append.proofs.Chunks.{outcome-refused, outcome-written}
+use Rattle.append.proofs.Chunks.{outcome-written}
 use Rattle.append.proofs.append.Statement.{statement}
 use Rattle.append.proofs.append.Tie as tie
 
@@ -19,6 +20,9 @@ buffer s = s .args .buffer .now
 
 abbrev given : tie.Start → Given
 given s = givenOf (s .args .description) (s .args .parents .now) (s .args .specific .now) (s .args .contents .now) (s .args .«open»)
+
+abbrev tests : tie.Start → List Test
+tests s = appendTests (buffer s) (s .args .length) (given s)
 
 -- the beginning, from the places behind test 11 and behind the other tests
 abbrev from : tie.After-over-limit → tie.Start
@@ -39,10 +43,10 @@ over-limit-requires : tie.Need-over-limit-requires
 over-limit-requires c κs = search needs
 
 returns : tie.Need-returns
-unfolding appendAnswer
+unfolding appendAnswer append
 returns c =
     let start = from (c .before) in
-    outcome-refused (buffer start) (start .args .length) (given start) 11 (refused-11 (buffer start) (start .args .length) (given start) (over c)) (λ z. omega arith)
+    outcome-refused (tests start) (buffer start) _ 11 (refused-11 (buffer start) (start .args .length) (given start) (over c)) (λ z. omega arith)
 
 slice-reshare-prefix-survey : tie.Need-slice-reshare-prefix-survey
 slice-reshare-prefix-survey c = let start = from (c .before) in inside (buffer start) (start .args .length) (given start) (lent c)
@@ -62,10 +66,10 @@ same-length : tie.Need-same-length
 same-length c = search needs
 
 returns-2 : tie.Need-returns-2
-unfolding appendAnswer
+unfolding appendAnswer append
 returns-2 c =
     let start = tested (c .before) in
-    outcome-refused (buffer start) (start .args .length) (given start) (c .before .refusal .result) (c .before .refusal .ensures) (c .if2 .taken)
+    outcome-refused (tests start) (buffer start) _ (c .before .refusal .result) (c .before .refusal .ensures) (c .if2 .taken)
 
 put-chunk-requires : tie.Need-put-chunk-requires
 put-chunk-requires c κs =

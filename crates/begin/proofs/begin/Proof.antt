@@ -2,9 +2,10 @@
 use mathlib.Core.Path.{_≡_, sym, _∙_}
 use borrow.Author.Needs.{needs}
 use Rattle.metafile.specs.Answers.{beginAnswer, firstRefusal}
-use Rattle.metafile.specs.Begin.{BeginGiven, beginTests}
+use Rattle.metafile.specs.Begin.{BeginGiven, beginTests, begin}
 use Rattle.begin.specs.Given.{givenOf}
-use Rattle.begin.proofs.Tests.{accepted, outcome-refused, outcome-written}
+use Rattle.laws.proofs.Outcomes.{outcome-refused}
+use Rattle.begin.proofs.Tests.{accepted, outcome-written}
 use Rattle.begin.proofs.begin.Statement.{statement}
 use Rattle.begin.proofs.begin.Tie as tie
 
@@ -25,10 +26,10 @@ same-length : tie.Need-same-length
 same-length c = search needs
 
 returns : tie.Need-returns
-unfolding beginAnswer
+unfolding beginAnswer begin
 returns c =
     let s = start (c .before) in
-    outcome-refused (given s) (s .args .buffer .now) (c .before .refusal .result) (c .before .refusal .ensures) (c .if1 .taken)
+    outcome-refused (beginTests (given s) (s .args .buffer .now)) (s .args .buffer .now) _ (c .before .refusal .result) (c .before .refusal .ensures) (c .if1 .taken)
 
 put-header-requires : tie.Need-put-header-requires
 put-header-requires c κs =

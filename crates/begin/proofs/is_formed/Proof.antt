@@ -2,8 +2,9 @@
 use native.Mathlib.Omega.{arith}
 use borrow.Author.Needs.{needs}
 use Rattle.metafile.specs.Begin.{BeginGiven}
+use Rattle.writer.proofs.Described.{closing-size}
 use Rattle.begin.specs.Given.{givenOf}
-use Rattle.begin.proofs.Formed.{Widths, title-values-size, integrity-values-size, mark-fits, recorder-fits, writer-fits, unformed, formed-is}
+use Rattle.begin.proofs.Formed.{Widths, title-values-size, mark-fits, recorder-fits, writer-fits, unformed, formed-is}
 use Rattle.begin.proofs.is_formed.Statement.{statement}
 use Rattle.begin.proofs.is_formed.Tie as tie
 
@@ -39,7 +40,7 @@ slice-aggregate-values-formed-2 : tie.Need-slice-aggregate-values-formed-2
 slice-aggregate-values-formed-2 c = search needs
 
 values-formed-requires-2 : tie.Need-values-formed-requires-2
-values-formed-requires-2 c κs = (omega arith, rw integrity-values-size (search needs))
+values-formed-requires-2 c κs = (omega arith, rw closing-size (search needs))
 
 returns-4 : tie.Need-returns-4
 returns-4 c =

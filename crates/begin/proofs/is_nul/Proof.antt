@@ -3,7 +3,7 @@ use mathlib.Core.Path.{_≡_}
 use borrow.Author.Needs.{needs}
 use lib.ListN.{length}
 use Rattle.lines.specs.Words.{wordNo}
-use Rattle.begin.proofs.Values.{part-whole}
+use Rattle.writer.proofs.Placed.{part-whole}
 use Rattle.begin.proofs.is_nul.Statement.{statement}
 use Rattle.begin.proofs.is_nul.Tie as tie
 

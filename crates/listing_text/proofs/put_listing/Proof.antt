@@ -1,6 +1,7 @@
 -- `listing_text::put_listing` meets its contract. Assumes nothing.
-use Rattle.listing_text.proofs.Texts.{put-is}
-use Rattle.listing_text.proofs.Enough.{count-few, count-inside, listing-short, listing-long}
+use Rattle.text.proofs.Puts.{put-is}
+use Rattle.read.proofs.Enough.{count-few, count-inside}
+use Rattle.listing_text.proofs.Texts.{listing-short, listing-long}
 use borrow.Author.Needs.{needs}
 use Rattle.listing_text.proofs.put_listing.Statement.{statement}
 use Rattle.listing_text.proofs.put_listing.Tie as tie

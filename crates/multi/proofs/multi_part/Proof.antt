@@ -1,8 +1,9 @@
 -- `multi::multi_part` meets its contract. Assumes nothing.
 use native.Mathlib.Omega.{arith}
 use borrow.Author.Needs.{needs}
-use Rattle.multi.proofs.Places.{none}
-use Rattle.multi.proofs.Contents.{head-fits, head-most, multi-head, multi-types, place-inside, texts-kept, multi-first, multi-minis}
+use Rattle.laws.proofs.Stages.{none}
+use Rattle.multi.proofs.TypeStages.{head-fits}
+use Rattle.multi.proofs.Contents.{head-most, multi-head, multi-types, place-inside, texts-kept, multi-first, multi-minis}
 use Rattle.multi.proofs.multi_part.Statement.{statement}
 use Rattle.multi.proofs.multi_part.Tie as tie
 

@@ -3,7 +3,8 @@ use mathlib.Core.Path.{sym, _∙_}
 use native.Mathlib.Omega.{arith}
 use borrow.Author.Needs.{needs}
 use lib.ListN.{length, length-take}
-use Rattle.search.proofs.Laws.{starts-inside, starts-rest, starts-not}
+use Rattle.laws.proofs.Lists.{starts-local}
+use Rattle.search.proofs.Laws.{starts-rest, starts-not}
 use Rattle.search.proofs.begins_across.Statement.{statement}
 use Rattle.search.proofs.begins_across.Tie as tie
 
@@ -13,7 +14,7 @@ begins-requires c κs = search needs
 returns : tie.Need-returns
 returns c =
     let args = c .before .before .before .before .before .args in
-    c .begins .ensures ∙ sym (starts-inside (args .mark .now) (args .s .now) (args .tail .now) (omega arith))
+    c .begins .ensures ∙ sym (starts-local (args .mark .now) (args .s .now) (args .tail .now) (omega arith))
 
 slice-aggregate-agree : tie.Need-slice-aggregate-agree
 slice-aggregate-agree c =

@@ -3,14 +3,12 @@ use mathlib.Core.Path.{_≡_, refl, sym, _∙_}
 use native.Mathlib.Omega.{arith}
 use borrow.Author.Needs.{needs}
 use Rattle.laws.proofs.First.{require-met, require-unmet}
-use Rattle.table.specs.Codes.{labelNo}
 use Rattle.table.proofs.Labels.{label-room, label-taken, label-short, label-compared}
 use Rattle.table.proofs.label_fault.Statement.{statement}
 use Rattle.table.proofs.label_fault.Tie as tie
 use Rattle.table.proofs.label_fault.Reads as reads
 use Rattle.table.proofs.label_fault.Lts as lts
 use Rattle.search.proofs.same_bytes.Reads as same-bytes-reads
-use Rattle.table.proofs.label_at.Reads as label-at-reads
 use Rattle.table.proofs.line_at.Reads as line-at-reads
 
 line-at-requires : tie.Need-line-at-requires
@@ -26,10 +24,7 @@ returns : tie.Need-returns
 returns c =
     let at = c .before .before .before .before .args in
     let line = c .before .before .line-at in
-    label-short (at .i) (omega arith) (line .result) (line .ensures) (labelNo (at .i)) refl (at .s .now) (at .at) (omega arith)
-
-label-at-requires : tie.Need-label-at-requires
-label-at-requires c κs = search needs
+    label-short (at .i) (omega arith) (line .result) (line .ensures) (at .s .now) (at .at) (omega arith)
 
 add-same-bytes : tie.Need-add-same-bytes
 add-same-bytes c = search needs
@@ -47,13 +42,13 @@ array-share-prefix-label : tie.Need-array-share-prefix-label
 array-share-prefix-label c =
     let at = c .before .before .before .before .before .before .args in
     let line = c .before .before .before .before .line-at in
-    label-room (at .i) (omega arith) (line .result) (line .ensures) (c .before .label-at .result) (c .before .label-at .ensures)
+    label-room (at .i) (omega arith) (line .result) (line .ensures)
 
 slice-aggregate-same-bytes : tie.Need-slice-aggregate-same-bytes
 slice-aggregate-same-bytes c =
     let at = c .before .before .before .before .before .before .before .args in
     let line = c .before .before .before .before .before .line-at in
-    label-taken (at .i) (omega arith) (line .result) (line .ensures) (c .before .before .label-at .result) (c .before .before .label-at .ensures)
+    label-taken (at .i) (omega arith) (line .result) (line .ensures)
 
 same-bytes-requires : tie.Need-same-bytes-requires
 same-bytes-requires c κs = search needs
@@ -62,19 +57,17 @@ returns-2 : tie.Need-returns-2
 returns-2 c =
     let at = c .before .before .before .before .before .before .before .before .before .args in
     let line = c .before .before .before .before .before .before .before .line-at in
-    let label = c .before .before .before .before .label-at in
     let test = c .before .same-bytes in
     sym (require-met (test .result) 5 (c .if2 .taken))
-    ∙ label-compared (at .i) (omega arith) (line .result) (line .ensures) (label .result) (label .ensures) (at .s .now) (at .at) (omega arith) (test .result) (test .ensures)
+    ∙ label-compared (at .i) (omega arith) (line .result) (line .ensures) (at .s .now) (at .at) (omega arith) (test .result) (test .ensures)
 
 returns-3 : tie.Need-returns-3
 returns-3 c =
     let at = c .before .before .before .before .before .before .before .before .before .args in
     let line = c .before .before .before .before .before .before .before .line-at in
-    let label = c .before .before .before .before .label-at in
     let test = c .before .same-bytes in
     sym (require-unmet (test .result) 5 (c .if2 .left))
-    ∙ label-compared (at .i) (omega arith) (line .result) (line .ensures) (label .result) (label .ensures) (at .s .now) (at .at) (omega arith) (test .result) (test .ensures)
+    ∙ label-compared (at .i) (omega arith) (line .result) (line .ensures) (at .s .now) (at .at) (omega arith) (test .result) (test .ensures)
 
 pub label-fault-spec : {M : Type 1} → statement M
 label-fault-spec =
@@ -84,7 +77,6 @@ label-fault-spec =
     cast-long
     sub-if1
     returns
-    label-at-requires
     add-same-bytes
     sub-same-bytes
     part-same-bytes-start

@@ -297,7 +297,7 @@ fn accepted(run: &mut Run, case: &Case) {
     run.demand(ends == right, &format!("{ends:?}, not {right:?}"), finished, length);
     let count = case.file.rows.len();
     let (reading, rows) = run.read(finished, count + 2);
-    let clean = (reading.count, reading.stop, reading.number) == (count + 1, right.third, 0);
+    let clean = reading.count == count + 1 && reading.is_clean(finished.len());
     run.demand(clean, &format!("{reading:?}"), finished, length);
     run.demand(rows[..count] == case.file.rows, "the old rows", finished, 0);
     let row = rows[count];

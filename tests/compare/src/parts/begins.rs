@@ -132,7 +132,7 @@ pub fn run(run: &mut Run, cases: u64) {
         let answer = call(run, &given);
         let Ok(file) = answer else { run.fail(&format!("begin gave {answer:?}"), b"", 0) };
         let (reading, _) = run.read(&file, 1);
-        let clean = (reading.count, reading.stop, reading.good, reading.number) == (0, file.len(), true, 0);
+        let clean = reading.count == 0 && reading.good && reading.is_clean(file.len());
         run.demand(clean && file.len() == 319 + 2 * given.mark.len(), &format!("begun, {reading:?}"), &file, 0);
 
         let (name, number, fault) = FAULTS[case as usize % FAULTS.len()];

@@ -121,7 +121,7 @@ fn left(run: &mut Run, random: &mut Random, append: &Append, file: Vec<u8>) {
     let (right, right_rows) = if whole { &append.new } else { &append.old };
     let same = rows == *right_rows && reading.stop == right.stop && reading.good == append.old.0.good;
     run.demand(same, &format!("{reading:?}, not {right:?}"), &file, old_end);
-    let clean = reading.number == 0 && reading.stop == file.len();
+    let clean = reading.is_clean(file.len());
     run.demand(clean == (whole || file.len() == old_end), &format!("clean? {reading:?}"), &file, old_end);
     if !append.parents.is_empty() && random.one_in(8) {
         let (row, j, before, after) = random.pick(&append.parents);

@@ -2,7 +2,7 @@
 use mathlib.Core.Path.{sym, ap, _∙_}
 use borrow.Author.Needs.{needs}
 use Rattle.metafile.specs.Answers.{appendAnswer}
-use Rattle.ads.specs.Answers.{outcome}
+use Rattle.metafile.specs.Answers.{outcome}
 use Rattle.ads.proofs.Structs.{append-numbered, ends-done, ends-refused}
 use Rattle.ads.proofs.calls.ads_append.Statement.{statement}
 use Rattle.ads.proofs.calls.ads_append.Tie as tie

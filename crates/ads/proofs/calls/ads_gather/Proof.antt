@@ -2,7 +2,7 @@
 use mathlib.Core.Path.{sym, ap, _∙_}
 use borrow.Author.Needs.{needs}
 use Rattle.metafile.specs.Answers.{gatherAnswer}
-use Rattle.ads.specs.Answers.{outcome}
+use Rattle.metafile.specs.Answers.{outcome}
 use Rattle.ads.proofs.Structs.{gather-numbered, written-done, written-refused}
 use Rattle.ads.proofs.calls.ads_gather.Statement.{statement}
 use Rattle.ads.proofs.calls.ads_gather.Tie as tie

@@ -2,7 +2,7 @@
 use mathlib.Core.Path.{sym, ap, _∙_}
 use borrow.Author.Needs.{needs}
 use Rattle.listing_text.specs.Text.{listingAnswer}
-use Rattle.ads.specs.Answers.{outcome}
+use Rattle.metafile.specs.Answers.{outcome}
 use Rattle.ads.proofs.Structs.{listing-numbered, written-done, written-refused}
 use Rattle.ads.proofs.calls.ads_listing.Statement.{statement}
 use Rattle.ads.proofs.calls.ads_listing.Tie as tie

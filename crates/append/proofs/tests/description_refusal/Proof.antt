@@ -4,7 +4,8 @@ use mathlib.Core.Path.{_≡_, sym, _∙_}
 use borrow.Author.Needs.{needs}
 use borrow.Author.Tests.{not-true, not-false}
 use Rattle.metafile.specs.Append.{appendFormed}
-use Rattle.append.proofs.Described.{formed-fits, refused-6, refused-17, described}
+use Rattle.writer.proofs.Described.{formed-fits}
+use Rattle.append.proofs.Held.{refused-6, refused-17, described}
 use Rattle.append.proofs.tests.description_refusal.Statement.{statement}
 use Rattle.append.proofs.tests.description_refusal.Tie as tie
 

@@ -1,27 +1,21 @@
 -- `append::tests::file_refusal` meets its contract. Assumes nothing.
-use Prim.Native.Nat.{_+_, _-_, _≤_}
+use Prim.Native.Nat.{_+_, _-_}
 use mathlib.Core.Bool.{false}
 use mathlib.Core.Path.{_≡_, sym, ap, _∙_}
 use native.Mathlib.Omega.{arith}
-use lib.ListN.{length, take, drop}
+use lib.ListN.{take, drop}
 use borrow.Author.Needs.{needs}
 use borrow.Author.Tests.{not-true, not-false}
 use Rattle.metafile.specs.Bytes.{all, nonZero}
-use Rattle.metafile.specs.Header.{headerFault, markOf}
-use Rattle.append.specs.Tests.{parentsRefused}
-use Rattle.append.proofs.Files.{header-fault, mark-fits, mark-slice}
+use Rattle.metafile.specs.Header.{markOf}
+use Rattle.writer.specs.Parents.{parentsRefused}
+use Rattle.append.proofs.Files.{mark-room, mark-found}
 use Rattle.append.proofs.Held.{refused-13, refused-9, refused-15, held}
 use Rattle.append.proofs.tests.file_refusal.Statement.{statement}
 use Rattle.append.proofs.tests.file_refusal.Tie as tie
 
-fault : (s : tie.Start) → headerFault (s .args .file .now) ≡ 0
-fault s = header-fault (s .args .file .now) (s .args .h) (s .pre .0) (s .pre .1)
-
-mark-room : (s : tie.Start) → 65 + s .args .h .mark ≤ length (s .args .file .now)
-mark-room s = mark-fits (s .args .file .now) (s .args .h) (s .pre .0) (fault s)
-
 clear-is : (s : tie.Start) → all nonZero (markOf (s .args .file .now)) ≡ all nonZero (take (65 + s .args .h .mark - 65) (drop 65 (s .args .file .now)))
-clear-is s = ap (all nonZero) (sym (mark-slice (s .args .file .now) (s .args .h) (s .pre .0) (fault s)))
+clear-is s = ap (all nonZero) (sym (mark-found (s .args .file .now) (s .args .h) (s .pre .0) (s .pre .1)))
 
 right : (c : tie.Else1) → parentsRefused (c .before .before .before .before .args .count) (c .before .before .before .before .args .parents .now) ≡ false
 right c = sym (c .before .parents-wrong .ensures) ∙ c .if1 .left
@@ -40,7 +34,9 @@ returns-2 c =
     refused-9 (args .file .now) (args .count) (args .known) (args .parents .now) (right (c .before)) (c .if2 .taken)
 
 add-end : tie.Need-add-end
-add-end c = omega (arith, mark-room (c .before .before .before .before .before .before))
+add-end c =
+    let s = c .before .before .before .before .before .before in
+    omega (arith, mark-room (s .args .file .now) (s .args .h) (s .pre .0) (s .pre .1))
 
 sub-is-clear : tie.Need-sub-is-clear
 sub-is-clear c = search needs
@@ -49,7 +45,9 @@ part-is-clear-start : tie.Need-part-is-clear-start
 part-is-clear-start c = search needs
 
 part-is-clear-end : tie.Need-part-is-clear-end
-part-is-clear-end c = omega (arith, mark-room (c .before .before .before .before .before .before))
+part-is-clear-end c =
+    let s = c .before .before .before .before .before .before in
+    omega (arith, mark-room (s .args .file .now) (s .args .h) (s .pre .0) (s .pre .1))
 
 is-clear-requires : tie.Need-is-clear-requires
 is-clear-requires c κs = search needs

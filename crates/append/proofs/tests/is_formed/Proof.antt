@@ -1,7 +1,7 @@
 -- `append::tests::is_formed` meets its contract. Assumes nothing.
 use native.Mathlib.Omega.{arith}
 use borrow.Author.Needs.{needs}
-use Rattle.append.proofs.Described.{Widths, given-size, closing-size, unformed, formed-is}
+use Rattle.writer.proofs.Described.{Widths, given-size, closing-size, unformed, formed-is}
 use Rattle.append.proofs.tests.is_formed.Statement.{statement}
 use Rattle.append.proofs.tests.is_formed.Tie as tie
 

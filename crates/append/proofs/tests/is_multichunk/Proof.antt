@@ -5,7 +5,7 @@ use mathlib.Core.List.{List}
 use borrow.Author.Needs.{needs}
 use Rattle.metafile.specs.Bytes.{same}
 use Rattle.metafile.specs.Chunk.{multiName}
-use Rattle.append.proofs.Described.{name-first, name-length}
+use Rattle.writer.proofs.Described.{name-first, name-length}
 use Rattle.append.proofs.tests.is_multichunk.Statement.{statement}
 use Rattle.append.proofs.tests.is_multichunk.Tie as tie
 

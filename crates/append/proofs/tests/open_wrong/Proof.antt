@@ -1,21 +1,13 @@
 -- `append::tests::open_wrong` meets its contract. Assumes nothing.
-use Prim.Native.Nat.{_+_, _≤_}
 use mathlib.Core.Path.{_≡_}
 use native.Mathlib.Omega.{arith}
 use lib.ListN.{length}
 use borrow.Author.Needs.{needs}
 use borrow.Author.Tests.{not-true, not-false}
-use Rattle.metafile.specs.Header.{headerFault}
-use Rattle.append.proofs.Files.{header-fault, parts, mark-fits, mark-slice}
+use Rattle.append.proofs.Files.{llc-found, mark-room, mark-found}
 use Rattle.append.proofs.Held.{closed-right, open-is}
 use Rattle.append.proofs.tests.open_wrong.Statement.{statement}
 use Rattle.append.proofs.tests.open_wrong.Tie as tie
-
-fault : (s : tie.Start) → headerFault (s .args .file .now) ≡ 0
-fault s = header-fault (s .args .file .now) (s .args .h) (s .pre .0) (s .pre .1)
-
-mark-room : (s : tie.Start) → 65 + s .args .h .mark ≤ length (s .args .file .now)
-mark-room s = mark-fits (s .args .file .now) (s .args .h) (s .pre .0) (fault s)
 
 returns : tie.Need-returns
 returns c =
@@ -23,7 +15,9 @@ returns c =
     closed-right (start .args .file .now) (start .args .t3) (start .args .contents .now) (start .args .«open») (not-true _ (c .if1 .taken))
 
 add-end : tie.Need-add-end
-add-end c = omega (arith, mark-room (c .before .before .before .before))
+add-end c =
+    let s = c .before .before .before .before in
+    omega (arith, mark-room (s .args .file .now) (s .args .h) (s .pre .0) (s .pre .1))
 
 slice-aggregate-is-word : tie.Need-slice-aggregate-is-word
 slice-aggregate-is-word c = search needs
@@ -38,7 +32,9 @@ part-first-found-start : tie.Need-part-first-found-start
 part-first-found-start c = search needs
 
 part-first-found-end : tie.Need-part-first-found-end
-part-first-found-end c = omega (arith, mark-room (c .before .before .before .before .before .before .before))
+part-first-found-end c =
+    let s = c .before .before .before .before .before .before .before in
+    omega (arith, mark-room (s .args .file .now) (s .args .h) (s .pre .0) (s .pre .1))
 
 first-found-requires : tie.Need-first-found-requires
 first-found-requires c κs = search needs
@@ -50,7 +46,7 @@ returns-2 c =
     let long : length (start .args .t3) ≡ 3 = search needs in
     open-is (start .args .file .now) (start .args .t3) (start .args .contents .now) _ (start .args .«open») (start .args .h .llc) (word .is-word .result) (c .first-found .result)
     (not-false _ (c .before .before .before .before .before .before .if1 .left)) long
-    (parts (start .args .file .now) (start .args .h) (start .pre .0) (fault start) .llc-is) (mark-slice (start .args .file .now) (start .args .h) (start .pre .0) (fault start))
+    (llc-found (start .args .file .now) (start .args .h) (start .pre .0) (start .pre .1)) (mark-found (start .args .file .now) (start .args .h) (start .pre .0) (start .pre .1))
     (c .first-found .ensures) (word .is-word .ensures)
 
 pub open-wrong-spec : {M : Type 1} → statement M

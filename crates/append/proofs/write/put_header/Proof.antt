@@ -6,7 +6,7 @@ use lib.ListN.{take}
 use borrow.Author.Needs.{needs}
 use Rattle.metafile.specs.Append.{Given}
 use Rattle.append.specs.Given.{givenOf}
-use Rattle.append.proofs.Written.{parentLines}
+use Rattle.writer.proofs.Rows.{parentLines}
 use Rattle.append.proofs.Surveyed.{located}
 use Rattle.append.proofs.Chunks.{Going, going, head-size, head-bytes, line-size, line-bytes, file-kept, first-put}
 use Rattle.append.proofs.write.put_header.Statement.{statement}

@@ -12,38 +12,36 @@ use Rattle.chunk.proofs.header.dependencies_fault.Statement.{statement}
 use Rattle.chunk.proofs.header.dependencies_fault.Tie as tie
 
 abbrev Inv-loop : tie.InvT-loop
-Inv-loop s n fault at₀ left₀ at left = (at ≤ length s) × (run (lf ∷ dependencyFields n) (drop 567 s) ≡ run (dependencyFields left) (drop at s))
+Inv-loop s n at₀ left₀ at left = (at ≤ length s) × (run (lf ∷ dependencyFields n) (drop 567 s) ≡ run (dependencyFields left) (drop at s))
 
 abbrev μ-loop : tie.MeasureT-loop
-μ-loop s n fault at₀ left₀ at left = left
+μ-loop s n at₀ left₀ at left = left
 
-lf-fault-requires : tie.Need-lf-fault-requires Inv-loop μ-loop
-lf-fault-requires c κs = omega arith
+read-field-requires : tie.Need-read-field-requires Inv-loop μ-loop
+read-field-requires c κs = omega arith
 
 returns : tie.Need-returns Inv-loop μ-loop
 returns c =
-    let a = c .before .before .before .args in
-    dependencies-lf (a .s .now) (a .n) _ (c .before .lf-fault .ensures) (c .if1 .taken)
+    let a = c .before .before .before .before .args in
+    let end = c .before .before .read-field in
+    dependencies-lf (a .s .now) (a .n) (end .result) (end .ensures) (c .if1 .taken)
 
 loop-holds : tie.Need-loop-holds Inv-loop μ-loop
 loop-holds c =
-    let a = c .before .before .before .args in (
-      dependencies-first (a .s .now) (a .n) _ (c .before .lf-fault .ensures) (c .if1 .left) (omega arith),
-      dependencies-begun (a .s .now) (a .n) _ (c .before .lf-fault .ensures) (c .if1 .left),
+    let a = c .before .before .before .before .args in
+    let end = c .before .before .read-field in (
+      dependencies-first (a .s .now) (a .n) (end .result) (end .ensures) (c .if1 .left) (omega arith),
+      dependencies-begun (a .s .now) (a .n) (end .result) (end .ensures) (c .if1 .left),
     )
 
-lines-fault-requires : tie.Need-lines-fault-requires Inv-loop μ-loop
-lines-fault-requires c κs = omega arith
+dependency-requires : tie.Need-dependency-requires Inv-loop μ-loop
+dependency-requires c κs = omega arith
 
 returns-2 : tie.Need-returns-2 Inv-loop μ-loop
 returns-2 c =
-    let k = c .before .before .before .loop in
-    dependencies-stop (c .before .before .before .before .before .before .before .args .s .now) _ (k .at) (k .left) _ (c .before .lines-fault .ensures) (c .before .before .loop-test .taken) (k .inv .1) (c .if2 .taken)
-
-add-at : tie.Need-add-at Inv-loop μ-loop
-add-at c =
-    let k = c .before .before .before .loop in
-    omega (arith, dependencies-fit (c .before .before .before .before .before .before .before .args .s .now) 0 (k .at) 0 _ (c .before .lines-fault .ensures) (c .if2 .left) (k .inv .0))
+    let k = c .before .before .before .before .loop in
+    let parent = c .before .before .dependency in
+    dependencies-stop (c .before .before .before .before .before .before .before .before .before .args .s .now) _ (k .at) (k .left) (parent .result) (parent .ensures) (c .before .before .before .loop-test .taken) (k .inv .1) (c .if2 .taken)
 
 sub-left : tie.Need-sub-left Inv-loop μ-loop
 sub-left c = omega arith
@@ -53,15 +51,17 @@ loop-less c = omega arith
 
 loop-again : tie.Need-loop-again Inv-loop μ-loop
 loop-again c =
-    let k = c .before .before .before .loop in (
-      dependencies-fit (c .before .before .before .before .before .before .before .args .s .now) 0 (k .at) 0 _ (c .before .lines-fault .ensures) (c .if2 .left) (k .inv .0),
-      dependencies-next (c .before .before .before .before .before .before .before .args .s .now) _ (k .at) (k .left) _ (c .before .lines-fault .ensures) (c .before .before .loop-test .taken) (k .inv .1) (c .if2 .left),
+    let s = c .before .before .before .before .before .before .before .before .before .args .s .now in
+    let k = c .before .before .before .before .loop in
+    let parent = c .before .before .dependency in (
+      dependencies-fit s 0 (k .at) 0 (parent .result) (parent .ensures) (k .inv .0) (c .if2 .left),
+      dependencies-next s _ (k .at) (k .left) (parent .result) (parent .ensures) (c .before .before .before .loop-test .taken) (k .inv .1) (c .if2 .left),
     )
 
 returns-3 : tie.Need-returns-3 Inv-loop μ-loop
 returns-3 c =
     let k = c .before .loop in
-    dependencies-end (c .before .before .before .before .before .args .s .now) _ (k .at) (k .left) (omega arith) (k .inv .1)
+    dependencies-end (c .before .before .before .before .before .before .args .s .now) _ (k .at) (k .left) (omega arith) (k .inv .1)
 
 pub dependencies-fault-spec : {M : Type 1} → statement M
 dependencies-fault-spec =
@@ -69,12 +69,11 @@ dependencies-fault-spec =
     (tie.spec
     Inv-loop
     μ-loop
-    lf-fault-requires
+    read-field-requires
     returns
     loop-holds
-    lines-fault-requires
+    dependency-requires
     returns-2
-    add-at
     sub-left
     loop-less
     loop-again

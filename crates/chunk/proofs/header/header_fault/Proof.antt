@@ -7,7 +7,7 @@ use borrow.Author.Needs.{needs}
 use lib.ListN.{length, drop}
 use Rattle.metafile.specs.Lines.{lf, run, value, free}
 use Rattle.metafile.specs.Chunk.{head, dependencies, chunkHeaderFault, lengthsFault, dependencyFields, specificPlace, specific}
-use Rattle.multi.proofs.Places.{stop, go}
+use Rattle.laws.proofs.Stages.{stop, go}
 use Rattle.chunk.proofs.Headers.{head-long, dependencies-long, dependencies-are, specific-short, specific-whole}
 use Rattle.chunk.proofs.header.header_fault.Statement.{statement}
 use Rattle.chunk.proofs.header.header_fault.Tie as tie

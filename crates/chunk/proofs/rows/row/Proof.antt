@@ -17,22 +17,26 @@ add-contents c = let k = known (c .before .before .before) in omega arith
 add-end : tie.Need-add-end
 add-end c = let k = known (c .before .before .before .before) in omega arith
 
+add-closing : tie.Need-add-closing
+add-closing c = let k = known (c .before .before .before .before .before) in omega arith
+
 chunk-serial-requires : tie.Need-chunk-serial-requires
 chunk-serial-requires c κs = search needs
 
 offset-requires : tie.Need-offset-requires
-offset-requires c κs = known (c .before .before .before .before .before) .in-head
+offset-requires c κs = known (c .before .before .before .before .before .before) .in-head
 
 sum-good-requires : tie.Need-sum-good-requires
-sum-good-requires c κs = search needs
+sum-good-requires c κs = let k = known (c .before .before .before .before .before .before .before) in omega arith
 
 returns : tie.Need-returns
 returns c =
-    let a = c .before .before .before .before .before .before .before .args in
-    row-is (a .mark .now) (a .s .now) (a .p) (a .l) (known (c .before .before .before .before .before .before .before)) _ _ _ (c .before .before .chunk-serial .ensures)
-    (toZ-ofZ (record { sfits = c .before .offset .ok }) ∙ c .before .offset .ensures) (c .sum-good .ensures)
+    let a = c .before .before .before .before .before .before .before .before .args in
+    let k = known (c .before .before .before .before .before .before .before .before) in
+    row-is (a .mark .now) (a .s .now) (a .p) (a .l) k _ _ _ (c .before .before .chunk-serial .ensures)
+    (toZ-ofZ (record { sfits = c .before .offset .ok }) ∙ c .before .offset .ensures) (rw (k .closing-is) at (c .sum-good .ensures))
 
 pub row-spec : {M : Type 1} → statement M
 row-spec =
     tie.close
-    (tie.spec add-contents add-end chunk-serial-requires offset-requires sum-good-requires returns)
+    (tie.spec add-contents add-end add-closing chunk-serial-requires offset-requires sum-good-requires returns)

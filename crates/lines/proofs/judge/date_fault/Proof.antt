@@ -7,31 +7,10 @@ use borrow.Author.Needs.{needs}
 use Rattle.lines.proofs.judge.date_fault.Statement.{statement}
 use Rattle.lines.proofs.judge.date_fault.Tie as tie
 
-sub-if1 : tie.Need-sub-if1
-sub-if1 c = search needs
-
 returns : tie.Need-returns
 returns c =
     let args = c .before .before .args in
     judged-short 8 dateFault (args .s .now) (args .at) (omega arith)
-
-add-is-date : tie.Need-add-is-date
-add-is-date c = search needs
-
-sub-is-date : tie.Need-sub-is-date
-sub-is-date c = search needs
-
-part-is-date-start : tie.Need-part-is-date-start
-part-is-date-start c = search needs
-
-part-is-date-end : tie.Need-part-is-date-end
-part-is-date-end c = search needs
-
-is-date-requires : tie.Need-is-date-requires
-is-date-requires c κs = search needs
-
-verdict-requires : tie.Need-verdict-requires
-verdict-requires c κs = search needs
 
 returns-2 : tie.Need-returns-2
 unfolding dateFault
@@ -43,12 +22,12 @@ pub date-fault-spec : {M : Type 1} → statement M
 date-fault-spec =
     tie.close
     (tie.spec
-    sub-if1
+    (λ c. search needs)
     returns
-    add-is-date
-    sub-is-date
-    part-is-date-start
-    part-is-date-end
-    is-date-requires
-    verdict-requires
+    (λ c. search needs)
+    (λ c. search needs)
+    (λ c. search needs)
+    (λ c. search needs)
+    (λ c κs. search needs)
+    (λ c κs. search needs)
     returns-2)

@@ -10,26 +10,11 @@ use borrow.Author.Needs.{needs}
 use Rattle.lines.proofs.judge.event_fault.Statement.{statement}
 use Rattle.lines.proofs.judge.event_fault.Tie as tie
 
-sub-if1 : tie.Need-sub-if1
-sub-if1 c = search needs
-
 returns : tie.Need-returns
 unfolding eventSynch
 returns c =
     let args = c .before .before .args in
     stamp-short (NUL ∷ []) (SLV ∷ MAS ∷ []) (args .s .now) (args .at) (omega arith)
-
-is-word-requires : tie.Need-is-word-requires
-is-word-requires c κs = search needs
-
-is-word-requires-2 : tie.Need-is-word-requires-2
-is-word-requires-2 c κs = search needs
-
-add-serial-fault : tie.Need-add-serial-fault
-add-serial-fault c = search needs
-
-serial-fault-requires : tie.Need-serial-fault-requires
-serial-fault-requires c κs = search needs
 
 returns-2 : tie.Need-returns-2
 unfolding eventSynch wordNo
@@ -39,15 +24,6 @@ returns-2 c =
     c .serial-fault .ensures
     ∙ stamp-serial (NUL ∷ []) (SLV ∷ MAS ∷ []) (args .s .now) (args .at) (omega arith)
     (word-two SLV MAS v _ _ (c .before .before .before .is-word .ensures) (c .before .before .is-word2 .ensures) ∙ c .before .if2 .taken)
-
-is-word-requires-3 : tie.Need-is-word-requires-3
-is-word-requires-3 c κs = search needs
-
-add-free-fault : tie.Need-add-free-fault
-add-free-fault c = search needs
-
-free-fault-requires : tie.Need-free-fault-requires
-free-fault-requires c κs = search needs
 
 returns-3 : tie.Need-returns-3
 unfolding eventSynch wordNo
@@ -70,15 +46,15 @@ pub event-fault-spec : {M : Type 1} → statement M
 event-fault-spec =
     tie.close
     (tie.spec
-    sub-if1
+    (λ c. search needs)
     returns
-    is-word-requires
-    is-word-requires-2
-    add-serial-fault
-    serial-fault-requires
+    (λ c κs. search needs)
+    (λ c κs. search needs)
+    (λ c. search needs)
+    (λ c κs. search needs)
     returns-2
-    is-word-requires-3
-    add-free-fault
-    free-fault-requires
+    (λ c κs. search needs)
+    (λ c. search needs)
+    (λ c κs. search needs)
     returns-3
     returns-4)

@@ -7,9 +7,6 @@ use borrow.Author.Needs.{needs}
 use Rattle.lines.proofs.judge.free_fault.Statement.{statement}
 use Rattle.lines.proofs.judge.free_fault.Tie as tie
 
-sub-if1 : tie.Need-sub-if1
-sub-if1 c = search needs
-
 returns : tie.Need-returns
 returns c =
     let args = c .before .args in
@@ -22,4 +19,4 @@ returns-2 c =
     judged (args .n) freeFault (args .s .now) (args .at) 0 (omega arith) (omega arith) refl
 
 pub free-fault-spec : {M : Type 1} → statement M
-free-fault-spec = tie.close (tie.spec sub-if1 returns returns-2)
+free-fault-spec = tie.close (tie.spec (λ c. search needs) returns returns-2)

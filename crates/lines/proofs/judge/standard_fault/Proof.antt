@@ -10,23 +10,11 @@ use borrow.Author.Needs.{needs}
 use Rattle.lines.proofs.judge.standard_fault.Statement.{statement}
 use Rattle.lines.proofs.judge.standard_fault.Tie as tie
 
-sub-if1 : tie.Need-sub-if1
-sub-if1 c = search needs
-
 returns : tie.Need-returns
 unfolding timeStandard
 returns c =
     let args = c .before .before .args in
     stamp-short (UTC ∷ NUL ∷ []) (ALT ∷ []) (args .s .now) (args .at) (omega arith)
-
-is-word-requires : tie.Need-is-word-requires
-is-word-requires c κs = search needs
-
-add-serial-fault : tie.Need-add-serial-fault
-add-serial-fault c = search needs
-
-serial-fault-requires : tie.Need-serial-fault-requires
-serial-fault-requires c κs = search needs
 
 returns-2 : tie.Need-returns-2
 unfolding timeStandard wordNo
@@ -35,18 +23,6 @@ returns-2 c =
     let v = part (args .at) 3 (args .s .now) in
     c .serial-fault .ensures
     ∙ stamp-serial (UTC ∷ NUL ∷ []) (ALT ∷ []) (args .s .now) (args .at) (omega arith) (word-one ALT v _ (c .before .before .is-word .ensures) ∙ c .before .if2 .taken)
-
-is-word-requires-2 : tie.Need-is-word-requires-2
-is-word-requires-2 c κs = search needs
-
-is-word-requires-3 : tie.Need-is-word-requires-3
-is-word-requires-3 c κs = search needs
-
-add-free-fault : tie.Need-add-free-fault
-add-free-fault c = search needs
-
-free-fault-requires : tie.Need-free-fault-requires
-free-fault-requires c κs = search needs
 
 returns-3 : tie.Need-returns-3
 unfolding timeStandard wordNo
@@ -71,15 +47,15 @@ pub standard-fault-spec : {M : Type 1} → statement M
 standard-fault-spec =
     tie.close
     (tie.spec
-    sub-if1
+    (λ c. search needs)
     returns
-    is-word-requires
-    add-serial-fault
-    serial-fault-requires
+    (λ c κs. search needs)
+    (λ c. search needs)
+    (λ c κs. search needs)
     returns-2
-    is-word-requires-2
-    is-word-requires-3
-    add-free-fault
-    free-fault-requires
+    (λ c κs. search needs)
+    (λ c κs. search needs)
+    (λ c. search needs)
+    (λ c κs. search needs)
     returns-3
     returns-4)

@@ -6,17 +6,11 @@ use borrow.Author.Needs.{needs}
 use Rattle.lines.proofs.judge.strategy_fault.Statement.{statement}
 use Rattle.lines.proofs.judge.strategy_fault.Tie as tie
 
-word-fault-requires : tie.Need-word-fault-requires
-word-fault-requires c κs = search needs
-
 returns : tie.Need-returns
 unfolding wordNo
 returns c =
     let args = c .before .before .before .args in
     strategy-stop (args .s .now) (args .at) (c .before .word-fault .result) (c .before .word-fault .ensures) (c .if1 .taken)
-
-add-count-fault : tie.Need-add-count-fault
-add-count-fault c = omega arith
 
 count-fault-requires : tie.Need-count-fault-requires
 unfolding wordNo
@@ -32,4 +26,4 @@ returns-2 c =
 
 pub strategy-fault-spec : {M : Type 1} → statement M
 strategy-fault-spec =
-    tie.close (tie.spec word-fault-requires returns add-count-fault count-fault-requires returns-2)
+    tie.close (tie.spec (λ c κs. search needs) returns (λ c. omega arith) count-fault-requires returns-2)

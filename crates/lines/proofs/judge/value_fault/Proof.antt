@@ -9,78 +9,9 @@ use borrow.Author.Needs.{needs}
 use Rattle.lines.proofs.judge.value_fault.Statement.{statement}
 use Rattle.lines.proofs.judge.value_fault.Tie as tie
 
-line-at-requires : tie.Need-line-at-requires
-line-at-requires c κs = search needs
-
-cast-width : tie.Need-cast-width
-cast-width c = search needs
-
-enum-told : tie.Need-enum-told
-enum-told c = search needs
-
-number-fault-requires : tie.Need-number-fault-requires
-number-fault-requires c κs = search needs
-
-enum-told-2 : tie.Need-enum-told-2
-enum-told-2 c = search needs
-
 count-fault-requires : tie.Need-count-fault-requires
 count-fault-requires c κs =
     omega (arith, told-checksum (c .before .before .before .before .before .args .i) (omega arith) (c .before .before .before .line-at .result) (c .before .before .before .line-at .ensures) (c .enum-told2 .given .1))
-
-enum-told-3 : tie.Need-enum-told-3
-enum-told-3 c = search needs
-
-text-fault-requires : tie.Need-text-fault-requires
-text-fault-requires c κs = search needs
-
-enum-told-4 : tie.Need-enum-told-4
-enum-told-4 c = search needs
-
-date-fault-requires : tie.Need-date-fault-requires
-date-fault-requires c κs = search needs
-
-enum-told-5 : tie.Need-enum-told-5
-enum-told-5 c = search needs
-
-offset-fault-requires : tie.Need-offset-fault-requires
-offset-fault-requires c κs = search needs
-
-enum-told-6 : tie.Need-enum-told-6
-enum-told-6 c = search needs
-
-serial-fault-requires : tie.Need-serial-fault-requires
-serial-fault-requires c κs = search needs
-
-enum-told-7 : tie.Need-enum-told-7
-enum-told-7 c = search needs
-
-word-fault-requires : tie.Need-word-fault-requires
-word-fault-requires c κs = search needs
-
-enum-told-8 : tie.Need-enum-told-8
-enum-told-8 c = search needs
-
-word-fault-requires-2 : tie.Need-word-fault-requires-2
-word-fault-requires-2 c κs = search needs
-
-enum-told-9 : tie.Need-enum-told-9
-enum-told-9 c = search needs
-
-standard-fault-requires : tie.Need-standard-fault-requires
-standard-fault-requires c κs = search needs
-
-enum-told-10 : tie.Need-enum-told-10
-enum-told-10 c = search needs
-
-event-fault-requires : tie.Need-event-fault-requires
-event-fault-requires c κs = search needs
-
-enum-told-11 : tie.Need-enum-told-11
-enum-told-11 c = search needs
-
-strategy-fault-requires : tie.Need-strategy-fault-requires
-strategy-fault-requires c κs = search needs
 
 returns : tie.Need-returns
 unfolding kindOf kindFault
@@ -141,30 +72,30 @@ pub value-fault-spec : {M : Type 1} → statement M
 value-fault-spec =
     tie.close
     (tie.spec
-    line-at-requires
-    cast-width
-    enum-told
-    number-fault-requires
-    enum-told-2
+    (λ c κs. search needs)
+    (λ c. search needs)
+    (λ c. search needs)
+    (λ c κs. search needs)
+    (λ c. search needs)
     count-fault-requires
-    enum-told-3
-    text-fault-requires
-    enum-told-4
-    date-fault-requires
-    enum-told-5
-    offset-fault-requires
-    enum-told-6
-    serial-fault-requires
-    enum-told-7
-    word-fault-requires
-    enum-told-8
-    word-fault-requires-2
-    enum-told-9
-    standard-fault-requires
-    enum-told-10
-    event-fault-requires
-    enum-told-11
-    strategy-fault-requires
+    (λ c. search needs)
+    (λ c κs. search needs)
+    (λ c. search needs)
+    (λ c κs. search needs)
+    (λ c. search needs)
+    (λ c κs. search needs)
+    (λ c. search needs)
+    (λ c κs. search needs)
+    (λ c. search needs)
+    (λ c κs. search needs)
+    (λ c. search needs)
+    (λ c κs. search needs)
+    (λ c. search needs)
+    (λ c κs. search needs)
+    (λ c. search needs)
+    (λ c κs. search needs)
+    (λ c. search needs)
+    (λ c κs. search needs)
     returns
     returns-2
     returns-3

@@ -10,22 +10,10 @@ use borrow.Author.Needs.{needs}
 use Rattle.lines.proofs.judge.word_fault.Statement.{statement}
 use Rattle.lines.proofs.judge.word_fault.Tie as tie
 
-sub-if1 : tie.Need-sub-if1
-sub-if1 c = search needs
-
 returns : tie.Need-returns
 returns c =
     let args = c .before .before .args in
     judged-short 3 (wordFault (wordNo (args .a) ∷ wordNo (args .b) ∷ [])) (args .s .now) (args .at) (omega arith)
-
-is-word-requires : tie.Need-is-word-requires
-is-word-requires c κs = search needs
-
-is-word-requires-2 : tie.Need-is-word-requires-2
-is-word-requires-2 c κs = search needs
-
-verdict-requires : tie.Need-verdict-requires
-verdict-requires c κs = search needs
 
 returns-2 : tie.Need-returns-2
 returns-2 c =
@@ -37,4 +25,4 @@ returns-2 c =
 pub word-fault-spec : {M : Type 1} → statement M
 word-fault-spec =
     tie.close
-    (tie.spec sub-if1 returns is-word-requires is-word-requires-2 verdict-requires returns-2)
+    (tie.spec (λ c. search needs) returns (λ c κs. search needs) (λ c κs. search needs) (λ c κs. search needs) returns-2)

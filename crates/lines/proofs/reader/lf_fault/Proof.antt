@@ -8,9 +8,6 @@ use Rattle.lines.proofs.reader.lf_fault.Tie as tie
 returns : tie.Need-returns
 returns c = lf-short (c .before .args .s .now) (c .before .args .at) (c .if1 .taken)
 
-shared-slice-read-if2 : tie.Need-shared-slice-read-if2
-shared-slice-read-if2 c = search needs
-
 returns-2 : tie.Need-returns-2
 returns-2 c = lf-bad (c .before .before .before .args .s .now) (c .before .before .before .args .at) (omega arith) (c .if2 .taken)
 
@@ -18,4 +15,4 @@ returns-3 : tie.Need-returns-3
 returns-3 c = lf-good (c .before .before .before .args .s .now) (c .before .before .before .args .at) (omega arith) (c .if2 .left)
 
 pub lf-fault-spec : {M : Type 1} → statement M
-lf-fault-spec = tie.close (tie.spec returns shared-slice-read-if2 returns-2 returns-3)
+lf-fault-spec = tie.close (tie.spec returns (λ c. search needs) returns-2 returns-3)

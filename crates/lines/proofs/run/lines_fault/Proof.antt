@@ -17,41 +17,24 @@ Inv-loop s at first n end p₀ i₀ p i =
 abbrev μ-loop : tie.MeasureT-loop
 μ-loop s at first n end p₀ i₀ p i = end - i
 
-add-end : tie.Need-add-end Inv-loop μ-loop
-add-end c = omega arith
-
 loop-holds : tie.Need-loop-holds Inv-loop μ-loop
 loop-holds c =
     let all : c .before .args .first + c .before .args .n - c .before .args .first ≡ c .before .args .n = omega arith in
     (omega arith, omega arith, rw all)
 
-line-fault-requires : tie.Need-line-fault-requires Inv-loop μ-loop
-line-fault-requires c κs = omega arith
-
 returns : tie.Need-returns Inv-loop μ-loop
 returns c =
-    let args = c .before .before .before .before .before .args in
-    lines-stop (args .s .now) _ (c .before .before .before .loop .p) (c .before .before .before .loop .i) (args .first + args .n) (c .before .before .before .loop .inv .2) (omega arith) (omega arith) (c .before .line-fault .result) (c .before .line-fault .ensures) (c .if1 .taken)
-
-line-bytes-requires : tie.Need-line-bytes-requires Inv-loop μ-loop
-line-bytes-requires c κs = omega arith
-
-add-p : tie.Need-add-p Inv-loop μ-loop
-add-p c =
     let args = c .before .before .before .before .before .before .args in
-    omega (arith, lines-fits (args .s .now) _ (c .before .before .before .before .loop .p) (c .before .before .before .before .loop .i) (args .first + args .n) (c .before .before .before .before .loop .inv .2) (omega arith) (omega arith) (c .before .before .line-fault .result) (c .before .before .line-fault .ensures) (omega arith) (c .before .if1 .left), c .line-bytes .ensures)
-
-add-i : tie.Need-add-i Inv-loop μ-loop
-add-i c = omega arith
-
-loop-less : tie.Need-loop-less Inv-loop μ-loop
-loop-less c = omega arith
+    let loop = c .before .before .before .before .loop in
+    let line = c .before .before .read-line in
+    lines-stop (args .s .now) _ (loop .p) (loop .i) (args .first + args .n) (loop .inv .2) (omega arith) (omega arith) (line .result) (line .ensures) (c .if1 .taken)
 
 loop-again : tie.Need-loop-again Inv-loop μ-loop
 loop-again c =
     let args = c .before .before .before .before .before .before .args in
-    let fits = lines-fits (args .s .now) _ (c .before .before .before .before .loop .p) (c .before .before .before .before .loop .i) (args .first + args .n) (c .before .before .before .before .loop .inv .2) (omega arith) (omega arith) (c .before .before .line-fault .result) (c .before .before .line-fault .ensures) (omega arith) (c .before .if1 .left) in
-    (omega arith, omega (arith, c .line-bytes .ensures), lines-next (args .s .now) _ (c .before .before .before .before .loop .p) (c .before .before .before .before .loop .i) (args .first + args .n) (c .before .before .before .before .loop .inv .2) (omega arith) (omega arith) (c .before .before .line-fault .result) (c .before .before .line-fault .ensures) (c .line-bytes .result) (c .before .if1 .left) (c .line-bytes .ensures))
+    let loop = c .before .before .before .before .loop in
+    let line = c .before .before .read-line in
+    (omega arith, lines-fits (args .s .now) _ (loop .p) (loop .i) (args .first + args .n) (loop .inv .2) (omega arith) (omega arith) (line .result) (line .ensures) (omega arith) (c .if1 .left), lines-next (args .s .now) _ (loop .p) (loop .i) (args .first + args .n) (loop .inv .2) (omega arith) (omega arith) (line .result) (line .ensures) (c .if1 .left))
 
 returns-2 : tie.Need-returns-2 Inv-loop μ-loop
 returns-2 c =
@@ -64,13 +47,11 @@ lines-fault-spec =
     (tie.spec
     Inv-loop
     μ-loop
-    add-end
+    (λ c. omega arith)
     loop-holds
-    line-fault-requires
+    (λ c κs. omega arith)
     returns
-    line-bytes-requires
-    add-p
-    add-i
-    loop-less
+    (λ c. omega arith)
+    (λ c. omega arith)
     loop-again
     returns-2)

@@ -1,8 +1,7 @@
 -- `lines::words::begins_mini` meets its contract: the first 10 bytes are compared with the label. Assumes nothing.
-use mathlib.Core.Path.{_≡_}
 use native.Mathlib.Omega.{arith}
 use borrow.Author.Needs.{needs}
-use lib.ListN.{length, take, length-take}
+use lib.ListN.{take, length-take}
 use Rattle.metafile.specs.Bytes.{starts}
 use Rattle.metafile.specs.Multi.{miniLabel}
 use Rattle.search.proofs.Laws.{same-lengths}
@@ -18,12 +17,6 @@ returns c =
 slice-aggregate-same-bytes : tie.Need-slice-aggregate-same-bytes
 slice-aggregate-same-bytes c = simp length-take (omega arith)
 
-slice-aggregate-same-bytes-2 : tie.Need-slice-aggregate-same-bytes-2
-slice-aggregate-same-bytes-2 c = search needs
-
-same-bytes-requires : tie.Need-same-bytes-requires
-same-bytes-requires c κs = search needs
-
 returns-2 : tie.Need-returns-2
 unfolding starts miniLabel
 returns-2 c = c .same-bytes .ensures
@@ -34,6 +27,6 @@ begins-mini-spec =
     (tie.spec
     returns
     slice-aggregate-same-bytes
-    slice-aggregate-same-bytes-2
-    same-bytes-requires
+    (λ c. search needs)
+    (λ c κs. search needs)
     returns-2)

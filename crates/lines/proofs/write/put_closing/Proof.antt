@@ -7,9 +7,6 @@ use borrow.Author.Needs.{needs}
 use Rattle.lines.proofs.write.put_closing.Statement.{statement}
 use Rattle.lines.proofs.write.put_closing.Tie as tie
 
-put-bytes-requires : tie.Need-put-bytes-requires
-put-bytes-requires c κs = search needs
-
 put-lines-requires : tie.Need-put-lines-requires
 put-lines-requires c κs =
     let pre = c .before .before .before .before .before .before .before .before .pre in
@@ -23,12 +20,6 @@ put-label-requires c κs =
     let lines = c .before .before .before .put-lines in
     omega (arith, pre, mark .ensures .0, mark .kept .0, lines .ensures .0, lines .kept .0, integrity-size, integrity-values, checksum-label)
 
-sub-byte-sum : tie.Need-sub-byte-sum
-sub-byte-sum c = search needs
-
-part-byte-sum-start : tie.Need-part-byte-sum-start
-part-byte-sum-start c = search needs
-
 part-byte-sum-end : tie.Need-part-byte-sum-end
 part-byte-sum-end c =
     let pre = c .before .before .before .before .before .before .before .before .before .before .before .before .before .before .before .before .pre in
@@ -36,12 +27,6 @@ part-byte-sum-end c =
     let lines = c .before .before .before .before .before .before .before .put-lines in
     let label = c .before .before .before .put-label in
     omega (arith, pre, mark .ensures .0, mark .kept .0, lines .ensures .0, lines .kept .0, label .ensures .0, label .kept .0, integrity-size, integrity-values, checksum-label)
-
-byte-sum-requires : tie.Need-byte-sum-requires
-byte-sum-requires c κs = search needs
-
-cast-put-number : tie.Need-cast-put-number
-cast-put-number c = search needs
 
 put-number-requires : tie.Need-put-number-requires
 put-number-requires c κs =
@@ -104,14 +89,14 @@ pub put-closing-spec : {M : Type 1} → statement M
 put-closing-spec =
     tie.close
     (tie.spec
-    put-bytes-requires
+    (λ c κs. search needs)
     put-lines-requires
     put-label-requires
-    sub-byte-sum
-    part-byte-sum-start
+    (λ c. search needs)
+    (λ c. search needs)
     part-byte-sum-end
-    byte-sum-requires
-    cast-put-number
+    (λ c κs. search needs)
+    (λ c. search needs)
     put-number-requires
     slice-write-buffer
     add-put-bytes

@@ -14,21 +14,6 @@ use Rattle.lines.proofs.write.put_line.Tie as tie
 put-label-requires : tie.Need-put-label-requires
 put-label-requires c κs = omega (arith, line-size-is (lineNo (c .before .before .before .args .i)))
 
-value-bytes-requires : tie.Need-value-bytes-requires
-value-bytes-requires c κs = search needs
-
-add-put-bytes : tie.Need-add-put-bytes
-add-put-bytes c = search needs
-
-sub-put-bytes : tie.Need-sub-put-bytes
-sub-put-bytes c = search needs
-
-part-put-bytes-start : tie.Need-part-put-bytes-start
-part-put-bytes-start c = search needs
-
-part-put-bytes-end : tie.Need-part-put-bytes-end
-part-put-bytes-end c = search needs
-
 put-bytes-requires : tie.Need-put-bytes-requires
 put-bytes-requires c κs =
     let args = c .before .before .before .before .before .before .before .before .before .args in
@@ -77,11 +62,11 @@ put-line-spec =
     tie.close
     (tie.spec
     put-label-requires
-    value-bytes-requires
-    add-put-bytes
-    sub-put-bytes
-    part-put-bytes-start
-    part-put-bytes-end
+    (λ c κs. search needs)
+    (λ c. search needs)
+    (λ c. search needs)
+    (λ c. search needs)
+    (λ c. search needs)
     put-bytes-requires
     slice-write-buffer
     add-result

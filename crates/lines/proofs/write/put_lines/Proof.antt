@@ -24,9 +24,6 @@ Inv-loop buffer₀ at first n values end p₀ v₀ i₀ buffer p v i =
 abbrev μ-loop : tie.MeasureT-loop
 μ-loop buffer₀ at first n values end p₀ v₀ i₀ buffer p v i = end - i
 
-add-end : tie.Need-add-end Inv-loop μ-loop
-add-end c = omega arith
-
 loop-holds : tie.Need-loop-holds Inv-loop μ-loop
 loop-holds c =
     let args = c .before .before .args in
@@ -40,21 +37,12 @@ put-line-requires c κs =
     let end : ℕ = args .first + args .n in
     (omega arith, value-room (args .values .now) (loop .v) (loop .i) end (omega arith) (omega arith) (loop .inv .2), omega (arith, size-next (args .values .now) (loop .buffer) (loop .p) (loop .v) (loop .i) end (omega arith) (omega arith) (loop .inv .2) (omega arith)))
 
-value-bytes-requires : tie.Need-value-bytes-requires Inv-loop μ-loop
-value-bytes-requires c κs = omega arith
-
 add-v : tie.Need-add-v Inv-loop μ-loop
 add-v c =
     let args = c .before .before .before .before .before .before .before .before .before .args in
     let loop = c .before .before .before .before .before .before .loop in
     let end : ℕ = args .first + args .n in
     omega (arith, value-room (args .values .now) (loop .v) (loop .i) end (omega arith) (omega arith) (loop .inv .2), c .value-bytes .ensures)
-
-add-i : tie.Need-add-i Inv-loop μ-loop
-add-i c = omega arith
-
-loop-less : tie.Need-loop-less Inv-loop μ-loop
-loop-less c = omega arith
 
 loop-again : tie.Need-loop-again Inv-loop μ-loop
 loop-again c =
@@ -63,7 +51,7 @@ loop-again c =
     let end : ℕ = args .first + args .n in
     let line = c .before .before .before .put-line in
     let others = size-next (args .values .now) (loop .buffer) (loop .p) (loop .v) (loop .i) end (omega arith) (omega arith) (loop .inv .2) (omega arith) in
-    (omega arith, omega (arith, line .kept .0), value-next (args .values .now) (loop .v) (loop .i) end (omega arith) (omega arith) (loop .inv .2) (c .value-bytes .result) (c .value-bytes .ensures), omega (arith, line .ensures .0), loop .inv .4 ∙ put-next (args .values .now) (loop .buffer) (loop .p) (loop .v) (loop .i) end (omega arith) (omega arith) (loop .inv .2) (omega arith) (line .result) (c .value-bytes .result) (line .last .0) (line .ensures .0) (c .value-bytes .ensures) (line .ensures .1))
+    (omega arith, omega (arith, line .kept .0), value-next (args .values .now) (loop .v) (loop .i) end (omega arith) (omega arith) (loop .inv .2) (loop .v + c .value-bytes .result) (omega (arith, c .value-bytes .ensures)), omega (arith, line .ensures .0), loop .inv .4 ∙ put-next (args .values .now) (loop .buffer) (loop .p) (loop .v) (loop .i) end (omega arith) (omega arith) (loop .inv .2) (omega arith) (line .result) (c .value-bytes .result) (line .last .0) (line .ensures .0) (c .value-bytes .ensures) (line .ensures .1))
 
 same-length : tie.Need-same-length Inv-loop μ-loop
 same-length c = c .before .loop .inv .1
@@ -81,13 +69,13 @@ put-lines-spec =
     (tie.spec
     Inv-loop
     μ-loop
-    add-end
+    (λ c. omega arith)
     loop-holds
     put-line-requires
-    value-bytes-requires
+    (λ c κs. omega arith)
     add-v
-    add-i
-    loop-less
+    (λ c. omega arith)
+    (λ c. omega arith)
     loop-again
     same-length
     returns)

@@ -5,14 +5,8 @@ use borrow.Author.Needs.{needs}
 use Rattle.lines.proofs.write.value_bytes.Statement.{statement}
 use Rattle.lines.proofs.write.value_bytes.Tie as tie
 
-line-at-requires : tie.Need-line-at-requires
-line-at-requires c κs = search needs
-
-cast-result : tie.Need-cast-result
-cast-result c = search needs
-
 returns : tie.Need-returns
 returns c = wide-is (c .before .before .args .i) (omega arith) (c .before .line-at .result) (c .before .line-at .ensures)
 
 pub value-bytes-spec : {M : Type 1} → statement M
-value-bytes-spec = tie.close (tie.spec line-at-requires cast-result returns)
+value-bytes-spec = tie.close (tie.spec (λ c κs. search needs) (λ c. search needs) returns)

@@ -3,9 +3,10 @@
 use Prim.Native.Nat.{ℕ, _+_, _-_, _≤_}
 use mathlib.Core.Path.{_≡_, refl, sym, _∙_}
 use lib.ListN.{length, drop}
-use Rattle.metafile.specs.Lines.{linesOf, formed}
-use Rattle.table.specs.Codes.{linesFrom}
+use Rattle.metafile.specs.Lines.{linesOf, width, formed}
+use Rattle.table.specs.Codes.{lineNo, linesFrom}
 use Rattle.lines.specs.Values.{chopped, valuesSize}
+use Rattle.lines.proofs.Runs.{value-fault, value-wide}
 use Rattle.lines.proofs.Puts.{value-room, value-next, formed-bad, formed-good, formed-end}
 use native.Mathlib.Omega.{arith}
 use Rattle.lines.proofs.write.values_formed.Statement.{statement}
@@ -19,9 +20,6 @@ Inv-loop first n values end v₀ i₀ v i =
 
 abbrev μ-loop : tie.MeasureT-loop
 μ-loop first n values end v₀ i₀ v i = end - i
-
-add-end : tie.Need-add-end Inv-loop μ-loop
-add-end c = omega arith
 
 loop-holds : tie.Need-loop-holds Inv-loop μ-loop
 loop-holds c =
@@ -38,27 +36,11 @@ read-field-requires c κs =
 
 returns : tie.Need-returns Inv-loop μ-loop
 returns c =
-    let args = c .before .before .before .before .before .args in
-    let loop = c .before .before .before .loop in
-    let end : ℕ = args .first + args .n in
-    let field = c .before .read-field in
-    formed-bad (args .values .now) (loop .v) (loop .i) end (omega arith) (omega arith) (loop .inv .1) (field .result) (field .ensures) (c .if1 .taken) ∙ sym (loop .inv .2)
-
-value-bytes-requires : tie.Need-value-bytes-requires Inv-loop μ-loop
-value-bytes-requires c κs = omega arith
-
-add-v : tie.Need-add-v Inv-loop μ-loop
-add-v c =
     let args = c .before .before .before .before .before .before .args in
     let loop = c .before .before .before .before .loop in
     let end : ℕ = args .first + args .n in
-    omega (arith, value-room (args .values .now) (loop .v) (loop .i) end (omega arith) (omega arith) (loop .inv .1), c .value-bytes .ensures)
-
-add-i : tie.Need-add-i Inv-loop μ-loop
-add-i c = omega arith
-
-loop-less : tie.Need-loop-less Inv-loop μ-loop
-loop-less c = omega arith
+    let field = c .before .before .read-field in
+    formed-bad (args .values .now) (loop .v) (loop .i) end (omega arith) (omega arith) (loop .inv .1) (field .result .fault) (value-fault (loop .i) (loop .v) (args .values .now) (field .result) (field .ensures)) (c .if1 .taken) ∙ sym (loop .inv .2)
 
 loop-again : tie.Need-loop-again Inv-loop μ-loop
 loop-again c =
@@ -66,8 +48,8 @@ loop-again c =
     let loop = c .before .before .before .before .loop in
     let end : ℕ = args .first + args .n in
     let field = c .before .before .read-field in
-    let w = c .value-bytes in
-    (omega arith, value-next (args .values .now) (loop .v) (loop .i) end (omega arith) (omega arith) (loop .inv .1) (w .result) (w .ensures), loop .inv .2 ∙ formed-good (args .values .now) (loop .v) (loop .i) end (omega arith) (omega arith) (loop .inv .1) (field .result) (field .ensures) (w .result) (c .before .if1 .left) (w .ensures))
+    let next : field .result .at ≡ loop .v + width (lineNo (loop .i) .kind) = omega (arith, field .ensures .behind, value-wide (loop .i)) in
+    (omega arith, value-next (args .values .now) (loop .v) (loop .i) end (omega arith) (omega arith) (loop .inv .1) (field .result .at) next, loop .inv .2 ∙ formed-good (args .values .now) (loop .v) (loop .i) end (omega arith) (omega arith) (loop .inv .1) (field .result .fault) (value-fault (loop .i) (loop .v) (args .values .now) (field .result) (field .ensures)) (field .result .at) (c .if1 .left) next)
 
 returns-2 : tie.Need-returns-2 Inv-loop μ-loop
 returns-2 c =
@@ -82,13 +64,11 @@ values-formed-spec =
     (tie.spec
     Inv-loop
     μ-loop
-    add-end
+    (λ c. omega arith)
     loop-holds
     read-field-requires
     returns
-    value-bytes-requires
-    add-v
-    add-i
-    loop-less
+    (λ c. omega arith)
+    (λ c. omega arith)
     loop-again
     returns-2)

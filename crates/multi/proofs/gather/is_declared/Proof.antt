@@ -7,7 +7,7 @@ use borrow.Author.Needs.{needs}
 use lib.ListN.{length, drop}
 use Rattle.metafile.specs.Bytes.{member}
 use Rattle.metafile.specs.Multi.{typesBytes, typeIDs, declaredIDs}
-use Rattle.multi.proofs.Places.{compared}
+use Rattle.laws.proofs.Stages.{compared}
 use Rattle.multi.proofs.TypeWalk.{type-least, place-fits, place-past, place-begins, next-fits, bytes-next, declared-begins, declared-here, declared-next, declared-none}
 use Rattle.multi.proofs.gather.is_declared.Statement.{statement}
 use Rattle.multi.proofs.gather.is_declared.Tie as tie

@@ -1,9 +1,7 @@
 -- `multi::minis::mini_fault` meets its contract. Assumes nothing.
-use mathlib.Core.Path.{sym, _∙_}
 use native.Mathlib.Omega.{arith}
 use borrow.Author.Needs.{needs}
-use Rattle.multi.proofs.Places.{none, stop}
-use Rattle.multi.proofs.MiniStages.{mini-stages, mini-short, mini-declared, mini-undeclared}
+use Rattle.multi.proofs.MiniStages.{mini-short, mini-stop, mini-declared, mini-undeclared}
 use Rattle.multi.proofs.minis.mini_fault.Statement.{statement}
 use Rattle.multi.proofs.minis.mini_fault.Tie as tie
 
@@ -45,23 +43,22 @@ returns-2 c =
     mini-declared (s .args .at) (s .args .r .now) (s .pre .1 .0) _ (c .before .before .is-kept .ensures) _ (s .pre .1 .1)
     (omega arith) (c .before .if2 .taken) (c .data-fault .ensures)
 
-add-short-id-fault : tie.Need-add-short-id-fault
-add-short-id-fault c = search needs
+add-read-field : tie.Need-add-read-field
+add-read-field c = search needs
 
-short-id-fault-requires : tie.Need-short-id-fault-requires
-short-id-fault-requires c κs = search needs
+read-field-requires : tie.Need-read-field-requires
+read-field-requires c κs = search needs
 
 returns-3 : tie.Need-returns-3
 returns-3 c =
-    let s = c .before .before .before .before .before .before .before .before in
-    stop _ _ _ (c .before .short-id-fault .ensures) (c .if3 .taken)
-    ∙ sym (mini-stages (s .args .at) (s .args .r .now) (s .pre .1 .0) _)
+    let s = c .before .before .before .before .before .before .before .before .before in
+    mini-stop (s .args .at) (s .args .r .now) (s .pre .1 .0) _ (c .before .before .read-field .ensures) (c .if3 .taken)
 
 returns-4 : tie.Need-returns-4
 returns-4 c =
-    let s = c .before .before .before .before .before .before .before .before in
-    mini-undeclared (s .args .at) (s .args .r .now) (s .pre .1 .0) _ (c .before .before .before .is-kept .ensures)
-    (c .before .before .if2 .left) (none (c .before .short-id-fault .ensures) (c .if3 .left))
+    let s = c .before .before .before .before .before .before .before .before .before in
+    mini-undeclared (s .args .at) (s .args .r .now) (s .pre .1 .0) _ (c .before .before .before .before .is-kept .ensures)
+    (c .before .before .before .if2 .left) (c .before .before .read-field .ensures) (c .if3 .left)
 
 pub mini-fault-spec : {M : Type 1} → statement M
 mini-fault-spec =
@@ -78,7 +75,7 @@ mini-fault-spec =
     add-data-fault
     data-fault-requires
     returns-2
-    add-short-id-fault
-    short-id-fault-requires
+    add-read-field
+    read-field-requires
     returns-3
     returns-4)

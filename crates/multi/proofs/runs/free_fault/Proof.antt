@@ -1,7 +1,7 @@
 -- `multi::runs::free_fault` meets its contract. Assumes nothing.
 use native.Mathlib.Omega.{arith}
 use borrow.Author.Needs.{needs}
-use Rattle.multi.proofs.Places.{free-short, free-long}
+use Rattle.laws.proofs.Stages.{free-short, free-long}
 use Rattle.multi.proofs.runs.free_fault.Statement.{statement}
 use Rattle.multi.proofs.runs.free_fault.Tie as tie
 

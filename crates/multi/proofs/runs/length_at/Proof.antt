@@ -2,7 +2,7 @@
 use mathlib.Core.Path.{refl, ap, _∙_}
 use borrow.Author.Needs.{needs}
 use Rattle.metafile.specs.Fields.{countValue}
-use Rattle.multi.proofs.Places.{slice-is}
+use Rattle.laws.proofs.Stages.{slice-is}
 use Rattle.multi.proofs.runs.length_at.Statement.{statement}
 use Rattle.multi.proofs.runs.length_at.Tie as tie
 

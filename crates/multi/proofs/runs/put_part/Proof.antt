@@ -3,7 +3,7 @@ use mathlib.Core.Path.{refl, ap, _∙_}
 use native.Mathlib.Omega.{arith}
 use borrow.Author.Needs.{needs}
 use Rattle.metafile.specs.Answers.{placed}
-use Rattle.multi.proofs.Places.{slice-is, slice-length}
+use Rattle.laws.proofs.Stages.{slice-is, slice-length}
 use Rattle.multi.proofs.runs.put_part.Statement.{statement}
 use Rattle.multi.proofs.runs.put_part.Tie as tie
 

@@ -7,7 +7,7 @@ use borrow.Author.Needs.{needs}
 use lib.ListN.{length, drop}
 use Rattle.metafile.specs.Bytes.{member}
 use Rattle.multi.specs.Part.{keptIDs}
-use Rattle.multi.proofs.Places.{compared}
+use Rattle.laws.proofs.Stages.{compared}
 use Rattle.multi.proofs.TypeWalk.{kept-begins, kept-here, kept-next, kept-none}
 use Rattle.multi.proofs.types.is_kept.Statement.{statement}
 use Rattle.multi.proofs.types.is_kept.Tie as tie

@@ -4,7 +4,7 @@ use mathlib.Core.Path.{sym, _∙_}
 use native.Mathlib.Omega.{arith}
 use borrow.Author.Needs.{needs}
 use Rattle.multi.specs.Part.{keptIDs}
-use Rattle.multi.proofs.Places.{none, stop, go}
+use Rattle.laws.proofs.Stages.{none, stop, go}
 use Rattle.multi.proofs.TypeStages.{type-stages, names-place, long-enough, rest-place, type-repeated, type-passed}
 use Rattle.multi.proofs.types.type_fault.Statement.{statement}
 use Rattle.multi.proofs.types.type_fault.Tie as tie

@@ -1,61 +1,111 @@
 -- `walk::walks::row_with` meets its contract. Assumes nothing.
-use Prim.Native.Nat.{_+_, _≤_}
-use lib.ListN.{length}
-use Rattle.metafile.specs.Reading.{rowsOf}
-use Rattle.chunk_laws.proofs.File.{file-few}
-use Rattle.walk.proofs.Stages.{header-is}
-use Rattle.walk.proofs.Loops.{among-there, among-passed}
+use Prim.Native.Nat.{_-_}
+use mathlib.Core.Bool.{false}
+use mathlib.Core.Path.{_≡_, sym, _∙_}
+use lib.ListN.{length, take}
+use Rattle.metafile.specs.Fields.{known}
+use Rattle.metafile.specs.Reading.{rowsOf, serialsOf}
+use Rattle.walk.specs.Cursor.{At}
+use Rattle.walk.proofs.Index.{index-long}
+use Rattle.walk.proofs.Loops.{among-known, among-there, seen-passed, numbered-here, numbered-none}
+use Rattle.walk.proofs.Cursors.{There, there, stops}
 use borrow.Author.Needs.{needs}
 use native.Mathlib.Omega.{arith}
 use Rattle.walk.proofs.walks.row_with.Statement.{statement}
 use Rattle.walk.proofs.walks.row_with.Tie as tie
 
-inside : (k : tie.Start) → k .args .k + 1 ≤ length (rowsOf (k .args .file .now))
-inside k = omega (arith, k .pre .1 .1 .0)
+abbrev Inv-loop : tie.InvT-loop
+Inv-loop file serial index₀ h c₀ index c = At file c index × (known serial (serialsOf (take (c .row) (rowsOf file))) ≡ false)
 
-add-row-among : tie.Need-add-row-among
-add-row-among c =
-    let k = c .before .before in
-    omega (arith, inside k, file-few (k .args .file .now), k .good)
+abbrev μ-loop : tie.MeasureT-loop
+μ-loop file serial index₀ h c₀ index c = length (rowsOf file) - c .row
 
-row-among-requires : tie.Need-row-among-requires
-row-among-requires c κs =
-    let k = c .before .before in
-    (k .pre .0, (k .pre .1 .0, inside k))
+-- the row at which it is asked
+own : (k : tie.Start Inv-loop μ-loop) → There (k .args .file .now) (k .args .own)
+own k = there (k .pre .0) (k .pre .1)
 
-returns : tie.Need-returns
+abbrev start : tie.At-loop Inv-loop μ-loop → tie.Start Inv-loop μ-loop
+start c = c .before .before .before .before .before .before
+
+-- the row of the cursor
+here : (c : tie.In-loop Inv-loop μ-loop) → There (start (c .before) .args .file .now) (c .before .loop .c)
+here c = there (c .before .loop .inv .0) (c .loop-test .taken)
+
+row-among-requires : tie.Need-row-among-requires Inv-loop μ-loop
+row-among-requires c κs = let w = own (c .before .before .before) in (w .behind .header-is, (w .behind .whole, w .behind .few))
+
+returns : tie.Need-returns Inv-loop μ-loop
 returns c =
     let r = c .before in
-    let k = r .before .before .before in
-    among-there (k .args .serial) (k .args .file .now) _ (inside k) (r .row-among .result) (r .row-among .ensures) (header-is _ (k .args .file .now) (k .pre .0) (k .pre .1 .0) .whole) (c .if1 .taken)
+    let k = r .before .before .before .before in
+    among-there (k .args .serial) (k .args .file .now) _ (own k .behind .few) (r .row-among .result) (r .row-among .ensures) (own k .begun) (c .if1 .taken)
 
-add-row-behind : tie.Need-add-row-behind
-add-row-behind c =
-    let k = c .before .before .before .before in
-    omega (arith, inside k, file-few (k .args .file .now), k .good)
+loop-holds : tie.Need-loop-holds Inv-loop μ-loop
+loop-holds c =
+    let r = c .before in
+    let k = r .before .before .before .before in
+    (k .pre .0, sym (among-known (k .args .serial) (k .args .file .now) _ (own k .behind .few) (r .row-among .result) (r .row-among .ensures)) ∙ c .if1 .left)
 
-row-behind-requires : tie.Need-row-behind-requires
-row-behind-requires c κs =
-    let e = c .before in
-    let r = e .before in
-    let k = r .before .before .before in
-    let p = among-passed (k .args .serial) (k .args .file .now) _ (inside k) (r .row-among .result) (r .row-among .ensures) (e .if1 .left) in
-    (k .pre .0, (k .pre .1 .0, (inside k, (p .0, (p .1, k .pre .1 .1 .1)))))
+serial-at-requires : tie.Need-serial-at-requires Inv-loop μ-loop
+serial-at-requires c κs =
+    let k = own (start (c .before .before)) in
+    let w = here (c .before) in
+    (k .behind .header-is, (k .behind .whole, (omega (arith, w .turn .inside), (w .turn .layout-is, w .turn .whole))))
 
-same-length : tie.Need-same-length
-same-length c = search needs
+same-serial-requires : tie.Need-same-serial-requires Inv-loop μ-loop
+same-serial-requires c κs = search needs
 
-returns-2 : tie.Need-returns-2
-returns-2 c = search needs
+same-length : tie.Need-same-length Inv-loop μ-loop
+same-length c = let l = c .before .before .before .before .before in index-long (l .loop .inv .0 .indexed) ∙ sym (index-long (start l .pre .0 .indexed))
+
+returns-2 : tie.Need-returns-2 Inv-loop μ-loop
+returns-2 c =
+    let a = c .before .before in
+    let w = here (a .before .before) in
+    let l = a .before .before .before in
+    numbered-here (start l .args .serial) (start l .args .file .now) (w .begun) _ _ (w .turn .row) (w .behind .place-is) _ _ (a .serial-at .ensures) (c .before .same-serial .ensures) (l .loop .inv .1) (c .if2 .taken)
+
+next-requires : tie.Need-next-requires Inv-loop μ-loop
+next-requires c κs = let i = c .before .before .before .before .before in (i .before .loop .inv .0, i .loop-test .taken)
+
+loop-less : tie.Need-loop-less Inv-loop μ-loop
+loop-less c = let n = c .before .before in omega (arith, here (n .before .before .before .before .before .before) .turn .row, n .next .ensures .1)
+
+loop-again : tie.Need-loop-again Inv-loop μ-loop
+loop-again c =
+    let n = c .before .before in
+    let e = n .before .before in
+    let a = e .before .before in
+    let w = here (a .before .before) in
+    let l = a .before .before .before in (
+      n .next .ensures .0,
+      rw (n .next .ensures .1)
+          (seen-passed (start l .args .serial) (start l .args .file .now) (w .begun) _ _ (w .turn .row) (w .behind .place-is) _ _ (a .serial-at .ensures) (e .before .same-serial .ensures) (l .loop .inv .1) (e .if2 .left)),
+    )
+
+same-length-2 : tie.Need-same-length-2 Inv-loop μ-loop
+same-length-2 c = let l = c .before in index-long (l .loop .inv .0 .indexed) ∙ sym (index-long (start l .pre .0 .indexed))
+
+returns-3 : tie.Need-returns-3 Inv-loop μ-loop
+returns-3 c =
+    let l = c .before in
+    numbered-none (start l .args .serial) (start l .args .file .now) _ (l .loop .inv .0 .few) (l .loop .inv .1) (omega (arith, stops (l .loop .inv .0) (c .loop-test .left) .count))
 
 pub row-with-spec : {M : Type 1} → statement M
 row-with-spec =
     tie.close
     (tie.spec
-    add-row-among
+    Inv-loop
+    μ-loop
     row-among-requires
     returns
-    add-row-behind
-    row-behind-requires
+    loop-holds
+    serial-at-requires
+    same-serial-requires
     same-length
-    returns-2)
+    returns-2
+    next-requires
+    loop-less
+    loop-again
+    same-length-2
+    returns-3)

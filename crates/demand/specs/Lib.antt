@@ -1,2 +1,0 @@
--- Taken   the hypotheses of demand 3: what an accepted append says of the file and of what was given
-pub mod Taken
