@@ -1,5 +1,6 @@
-/* ads.h: SEG-UKOOA ADS metafiles 1.00, the table of chunks. Link target/staticlib/libads.a (`rt staticlib ads`; x86-64
-   Linux). Each function is proved to give what its contract in crates/ads/src says, on any bytes.
+/* ads.h: SEG-UKOOA ADS metafiles 1.00, the table of chunks (x86-64 Linux). `make` builds the library, `make install`
+   installs it, and `pkg-config --cflags --libs ads` links it. Each function of the library is proved to give what its
+   contract in crates/ads/src says, on any bytes; ads_words and the macros are this header's own.
 
    Rules for every signature. The caller lends every buffer, for the time of the call: no call allocates, keeps a
    pointer, prints, or changes what it is lent by a pointer to const. A pointer with a length is to that many bytes
@@ -9,7 +10,7 @@
    0, or the number of a refusal (the table below); then the other values are 0 and false and what was lent is
    untouched. Only ads_read answers its values and rows beside a number. Rows and dependencies count from 0, places
    from the file's first byte. Texts have no zero byte behind them. A file is lent as a whole, in memory; reading it
-   from disk and writing it there is the caller's. A call may take up to 1 MiB of stack. */
+   from disk and writing it there is the caller's. A call may take up to ADS_STACK_BYTES of stack. */
 #ifndef ADS_H
 #define ADS_H
 
@@ -21,8 +22,35 @@
 extern "C" {
 #endif
 
-/* The numbers. 1 to 9 are faults of the bytes at ads_read's stop, and of what ads_begin and ads_append were given. */
+/* The version of this header and of its library; the number is major * 1000000 + minor * 1000 + patch. */
+#define ADS_VERSION "0.2.0"
+#define ADS_VERSION_NUMBER 2000
+
+/* ---- sizes */
+
+#define ADS_SERIAL_BYTES 38       /* bytes of a serial number */
+#define ADS_MOST_BYTES (1 << 30)  /* bytes of the longest file, and of the longest buffer, that a call takes */
+#define ADS_MOST_MARK 999         /* bytes of the longest mark */
+#define ADS_MOST_PARENTS 16       /* parents that one append takes */
+#define ADS_STACK_BYTES (1 << 20) /* stack that a call may take */
+#define ADS_LISTING_ROOM 10240    /* bytes that are enough for any listing */
+
+/* Rows that are enough for any file of this length: a chunk has at least 856 bytes. */
+#define ADS_MOST_ROWS(length) ((length) / 856 + 1)
+
+/* Bytes that ads_begin writes. */
+#define ADS_BEGIN_ROOM(mark_length) (319 + 2 * (mark_length))
+
+/* Bytes of a file of `length` bytes and the chunk that ads_append adds to it. ADS_MOST_MARK for the mark's length is
+   enough for any file. */
+#define ADS_APPEND_ROOM(length, mark_length, parent_count, specific_length, contents_length) \
+    ((length) + 856 + 344 * (parent_count) + (specific_length) + (contents_length) + 2 * (mark_length))
+
+/* ---- the numbers: docs/numbers.tsv */
+
+/* 1 to 9 are faults of the bytes at ads_read's stop, and of what ads_begin and ads_append were given. */
 enum {
+    ADS_OK = 0,             /* every call: no refusal */
     ADS_TITLE = 1,          /* read: the first 65 bytes don't match */
     ADS_TAPE = 2,           /* read, begin: NUL with a mark of no bytes, the tape form */
     ADS_MARK_MINI = 3,      /* read, begin: the mark begins "MiniChunk=" */
@@ -44,9 +72,36 @@ enum {
     ADS_NO_ROOM = 18        /* begin, append, gather, listing: the lent buffer is too short for the result */
 };
 
+/* A number in words, for a message. */
+static inline const char *ads_words(int number)
+{
+    switch (number) {
+    case ADS_OK: return "no refusal";
+    case ADS_TITLE: return "the first 65 bytes are not those of an ADS 1.00 file";
+    case ADS_TAPE: return "NUL with a mark of no bytes, the tape form";
+    case ADS_MARK_MINI: return "the mark begins with MiniChunk=";
+    case ADS_CUT: return "the bytes end too soon";
+    case ADS_DIFFERS: return "a label, line feed, mark or listed word differs";
+    case ADS_FORM: return "a field is out of form or range";
+    case ADS_LENGTH: return "a length disagrees with what it measures, or the type count is outside 1 to 64";
+    case ADS_SHORT_ID: return "a short ID is there twice or undeclared, or there is no mini-chunk";
+    case ADS_REPEATED: return "the serial number is already in a row";
+    case ADS_ROWS_FULL: return "another whole chunk with a new serial number, and no row left";
+    case ADS_LIMIT: return "a byte buffer is over 2^30 bytes, or the length is over the buffer's";
+    case ADS_NOT_CLEAN: return "the file isn't clean";
+    case ADS_NO_ROW: return "no such row";
+    case ADS_NO_DEPENDENCY: return "no such dependency, not a MultiChunk, or the short ID is undeclared";
+    case ADS_MARK_ZERO: return "the mark has a zero byte";
+    case ADS_OPEN: return "open under LLC or for BIN, or the mark is found before the data's end";
+    case ADS_MULTICHUNK: return "a MultiChunk can't be appended";
+    case ADS_NO_ROOM: return "the buffer is too short for the result";
+    default: return "no such number";
+    }
+}
+
 /* ---- what is answered */
 
-/* One chunk of the table: 104 bytes, aligned to 8. */
+/* One chunk of the table. The numbers beside the fields are their places in the struct. */
 typedef struct ads_row {
     uint8_t serial[38];  /*  0: serial number */
     size_t place;        /* 40: where the chunk begins */
@@ -57,55 +112,56 @@ typedef struct ads_row {
     size_t dependencies; /* 80: how many */
     int64_t offset;      /* 88: time offset in units of 10^-10 second; 0 under SPE or NUL standard */
     bool multichunk;     /* 96: it is a MultiChunk */
-    bool good;           /* 97: its sum is good; 6 bytes of padding follow */
-} ads_row;
+    bool good;           /* 97: its sum is good */
+} ads_row;               /* 104 bytes, as all structs here aligned to 8 */
 
 typedef struct ads_reading {
-    size_t count;   /* rows written to the table */
-    size_t stop;    /* end of the last chunk in a row, else of the header; 0 if that isn't whole */
-    bool good;      /* header sum good; never where the header isn't whole */
-    uint8_t number; /* 0 to 11; ads_is_clean says whether the file is clean */
-} ads_reading;
+    size_t count;   /*  0: rows written to the table */
+    size_t stop;    /*  8: end of the last chunk in a row, else of the header; 0 if that isn't whole */
+    bool good;      /* 16: header sum good; never where the header isn't whole */
+    uint8_t number; /* 17: 0 to 11; ads_is_clean says whether the file is clean */
+} ads_reading;      /* 24 bytes */
 
 typedef struct ads_written {
-    size_t length; /* bytes written at the start of the buffer */
-    uint8_t number;
-} ads_written;
+    size_t length;  /*  0: bytes written at the start of the buffer */
+    uint8_t number; /*  8 */
+} ads_written;      /* 16 bytes */
 
 typedef struct ads_parent_answer {
-    size_t row;  /* the row with the dependency's serial number; 0 where none is found */
-    bool found;  /* there is such a row; else the parent is missing */
-    bool agree;  /* the dependency names that row's own sub-format */
-    uint8_t number;
-} ads_parent_answer;
+    size_t row;     /*  0: the row with the dependency's serial number; 0 where none is found */
+    bool found;     /*  8: there is such a row; else the parent is missing */
+    bool agree;     /*  9: the dependency names that row's own sub-format */
+    uint8_t number; /* 10 */
+} ads_parent_answer; /* 16 bytes */
 
 /* The ends of append's three writes: header with content length line, data, closing. */
 typedef struct ads_ends {
-    size_t first, second, third;
-    uint8_t number;
-} ads_ends;
+    size_t first, second, third; /*  0, 8, 16 */
+    uint8_t number;              /* 24 */
+} ads_ends;                      /* 32 bytes */
 
 /* A part of the file: `bytes` bytes from file + place on. */
 typedef struct ads_part {
-    size_t place, bytes;
-    uint8_t number;
-} ads_part;
+    size_t place, bytes; /*  0, 8 */
+    uint8_t number;      /* 16 */
+} ads_part;              /* 24 bytes */
 
 /* ---- the file */
 
-/* Writes a file header at the start of the buffer: 319 bytes and twice the mark. strategy is "LLC" or "NUL". The serial
-   number has 38 bytes, a date 8 ("20240229"), an agent at most 32. Tests 11, 6, 2, 3, 15, 18. */
+/* Writes a file header at the start of the buffer, ADS_BEGIN_ROOM(mark_length) bytes. strategy is "LLC" or "NUL"; a
+   date is such as "20240229"; an agent has at most 32 bytes. Tests 11, 6, 2, 3, 15, 18. */
 ads_written ads_begin(const uint8_t strategy[3], const uint8_t *mark, size_t mark_length, const uint8_t serial[38],
                       const uint8_t recorded[8], const uint8_t *recorder, size_t recorder_length,
                       const uint8_t written[8], const uint8_t *writer, size_t writer_length,
                       uint8_t *buffer, size_t buffer_length);
 
-/* Reads the file into a table of `room` rows. Rows past the count are not written. It answers its values whatever the
-   number is: the rows before a fault, or before the table was full, hold. Given 11: count 0, stop 0, not good. */
+/* Reads the file into a table of `room` rows; ADS_MOST_ROWS(length) are enough. Rows past the count are not written. It
+   answers its values whatever the number is: the rows before a fault, or before the table was full, hold. Given 11:
+   count 0, stop 0, not good. */
 ads_reading ads_read(const uint8_t *file, size_t length, ads_row *rows, size_t room);
 
-/* Whether the file is clean, by its reading and its length: number 0 and stop at the file's end. Only to a clean file can
-   ads_append append. */
+/* Whether the file is clean, by its reading and its length: number 0 and stop at the file's end. Only to a clean file
+   can ads_append append. */
 bool ads_is_clean(ads_reading reading, size_t length);
 
 /* The calls below judge the file by a reading of their own with rows enough: rows before a fault count. */
@@ -113,17 +169,18 @@ bool ads_is_clean(ads_reading reading, size_t length);
 /* The parent that a row's dependency names. Tests 11, 13, 14. */
 ads_parent_answer ads_parent(const uint8_t *file, size_t length, size_t row, size_t dependency);
 
-/* The part of the file that the row names: its contents. Tests 11, 13. */
+/* The part of the file that the row names, which the row's own `contents` and `bytes` name too. Tests 11, 13. */
 ads_part ads_contents(const uint8_t *file, size_t length, size_t row);
 
-/* Joins, in order, the data of a MultiChunk's mini-chunks under one short ID (at most 10 bytes) into the buffer. A declared
-   ID without mini-chunks gives length 0. Bytes past the length keep their state. Tests 11, 13, 14, 18. */
+/* Joins, in order, the data of a MultiChunk's mini-chunks under one short ID (at most 10 bytes) into the buffer, for
+   which the row's `bytes` are enough. A declared ID without mini-chunks gives length 0. Bytes past the length keep
+   their state. Tests 11, 13, 14, 18. */
 ads_written ads_gather(const uint8_t *file, size_t length, size_t row, const uint8_t *id, size_t id_length,
                        uint8_t *buffer, size_t buffer_length);
 
-/* Writes the listing of the file's table as text: header sum, count, a line for each row, stop and number. An input over
-   65,536 bytes is no refusal: its text is "end 0 11" and LF. 10,240 bytes are enough for any text. Tests 11 (of the buffer
-   alone), 18. */
+/* Writes the listing of the file's table as text: header sum, count, a line for each row, stop and number. An input
+   over 65,536 bytes is no refusal: its text is "end 0 11" and LF. ADS_LISTING_ROOM bytes are enough for any text.
+   Tests 11 (of the buffer alone), 18. */
 ads_written ads_listing(const uint8_t *input, size_t length, uint8_t *buffer, size_t buffer_length);
 
 /* ---- append */
@@ -131,26 +188,29 @@ ads_written ads_listing(const uint8_t *input, size_t length, uint8_t *buffer, si
 /* The description of a chunk to append. Make one by ads_description_new and the functions below and don't look inside:
    a text is kept as its first bytes and the length that was given. */
 typedef struct ads_text256 {
-    uint8_t bytes[256];
-    size_t given;
-} ads_text256;
+    uint8_t bytes[256]; /*   0 */
+    size_t given;       /* 256 */
+} ads_text256;          /* 264 bytes */
 
 typedef struct ads_text32 {
-    uint8_t bytes[32];
-    size_t given;
-} ads_text32;
+    uint8_t bytes[32]; /*  0 */
+    size_t given;      /* 32 */
+} ads_text32;          /* 40 bytes */
 
 typedef struct ads_description {
-    ads_text256 subformat;
-    uint8_t generic[3], synch[3], standard[3], alternate[38], offset[16], event[3], linked[38], serial[38], recorded[8];
-    ads_text32 recorder;
-    uint8_t written[8];
-    ads_text32 writer;
-} ads_description;
+    ads_text256 subformat;                     /*   0 */
+    uint8_t generic[3], synch[3], standard[3]; /* 264, 267, 270 */
+    uint8_t alternate[38], offset[16];         /* 273, 311 */
+    uint8_t event[3], linked[38];              /* 327, 330 */
+    uint8_t serial[38], recorded[8];           /* 368, 406 */
+    ads_text32 recorder;                       /* 416 */
+    uint8_t written[8];                        /* 456 */
+    ads_text32 writer;                         /* 464 */
+} ads_description;                             /* 504 bytes */
 
-/* Each function takes a description by value and hands it back with one field set. Nothing is judged here: a text of any
-   length is taken, and ads_append refuses what is out of form or over-long (6); of fields never set, too, all but the
-   sub-format, which is then an empty text. */
+/* Each function takes a description by value and hands it back with one field set. Nothing is judged here: a text of
+   any length is taken, and ads_append refuses what is out of form or over-long (6); of fields never set, too, all but
+   the sub-format, which is then an empty text. */
 ads_description ads_description_new(void);
 
 /* SubFormat_ID, at most 256 bytes. */
@@ -181,9 +241,10 @@ ads_description ads_serial_number(ads_description d, const uint8_t serial[38]);
 ads_description ads_recording(ads_description d, const uint8_t date[8], const uint8_t *agent, size_t length);
 ads_description ads_writing(ads_description d, const uint8_t date[8], const uint8_t *agent, size_t length);
 
-/* Appends a chunk to the file that the buffer's first `length` bytes hold. parents are rows of that file, at most 16, none
-   twice; specific data and contents are any bytes; open leaves the content length 0 (NUL and TXT only). Bytes past the
-   third end keep their state. Tests 11, 12, 6, 17, 13, 9, 15, 16, 18.
+/* Appends a chunk to the file that the buffer's first `length` bytes hold; ADS_APPEND_ROOM says how long the buffer
+   must be. parents are rows of that file, at most 16, none twice; specific data and contents are any bytes; open leaves
+   the content length 0 (NUL and TXT only). Bytes past the third end keep their state. Tests 11, 12, 6, 17, 13, 9, 15,
+   16, 18.
    Then write the buffer's bytes from the old length to the first end, from there to the second, and from there to the
    third, each on disk before the next: after a power cut at any byte the file reads with its old rows, or whole. */
 ads_ends ads_append(uint8_t *buffer, size_t buffer_length, size_t length, ads_description description,

@@ -69,7 +69,7 @@ fn large(kept: &mut Vec<f64>) -> Report {
 fn small(times: &mut Vec<f64>) -> Report {
     let chunks = 50_000;
     let last = chunks - 1;
-    let file = files::counted(chunks, 64 * MIB / chunks - 856, &[5, chunks - 10]);
+    let file = files::counted(chunks, 64 * MIB / chunks - 856, &[5, last / 2 - 1, chunks - 10]);
     let bytes = &file.bytes[..];
     let mut lent = [calls::room_for(&file, 2, 11), calls::room_for(&file, 2, 11)];
     let [for_proved, for_plain] = &mut lent;
@@ -81,6 +81,8 @@ fn small(times: &mut Vec<f64>) -> Report {
         (1, &mut || assert!(black_box(plain::parent(black_box(bytes), last, 0)).is_ok_and(|found| found.is_some()))),
         (1, &mut || assert!(black_box(ffi::parent(black_box(bytes), last, 1)).found)),
         (1, &mut || assert!(black_box(plain::parent(black_box(bytes), last, 1)).is_ok_and(|found| found.is_some()))),
+        (1, &mut || assert!(black_box(ffi::parent(black_box(bytes), last, 2)).found)),
+        (1, &mut || assert!(black_box(plain::parent(black_box(bytes), last, 2)).is_ok_and(|found| found.is_some()))),
         (1, &mut || assert_eq!(black_box(ffi::contents(black_box(bytes), last)).number, 0)),
         (1, &mut || assert!(black_box(plain::contents(black_box(bytes), last)).is_ok())),
         (1, &mut proved_append(for_proved, bytes.len(), &[7, last], b"a few bytes")),
@@ -96,8 +98,9 @@ fn small(times: &mut Vec<f64>) -> Report {
     Report { lines, goals }
 }
 
-const OTHER_CALLS: [&str; 4] = [
+const OTHER_CALLS: [&str; 5] = [
     "(vi) parent of the last row, an early one",
+    "(vi) parent of the last row, before the middle",
     "(vi) parent of the last row, a late one",
     "(vi) contents of the last row",
     "(vi) append of 11 bytes, two parents",

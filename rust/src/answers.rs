@@ -1,10 +1,12 @@
 //! What the calls answer.
-use crate::ffi;
-use crate::Refusal;
+use std::fmt;
+
+use crate::show::Bytes;
+use crate::{ffi, Refusal};
 
 /// One chunk of the table. Places are counted from the file's first byte.
 #[repr(C)]
-#[derive(Clone, Copy, Debug, PartialEq, Eq)]
+#[derive(Clone, Copy, PartialEq, Eq, Hash)]
 pub struct Row {
     /// Serial number.
     pub serial: [u8; 38],
@@ -46,8 +48,26 @@ impl Default for Row {
     }
 }
 
+/// The serial number as text.
+impl fmt::Debug for Row {
+    fn fmt(&self, f: &mut fmt::Formatter<'_>) -> fmt::Result {
+        f.debug_struct("Row")
+            .field("serial", &Bytes(&self.serial))
+            .field("place", &self.place)
+            .field("header", &self.header)
+            .field("contents", &self.contents)
+            .field("bytes", &self.bytes)
+            .field("end", &self.end)
+            .field("dependencies", &self.dependencies)
+            .field("offset", &self.offset)
+            .field("multichunk", &self.multichunk)
+            .field("good", &self.good)
+            .finish()
+    }
+}
+
 /// What [`read`](crate::read) answers beside the rows, whether the reading reached the file's end or not.
-#[derive(Clone, Copy, Debug, PartialEq, Eq)]
+#[derive(Clone, Copy, Debug, PartialEq, Eq, Hash)]
 pub struct Reading {
     /// Rows written to the table.
     pub count: usize,
@@ -62,6 +82,14 @@ pub struct Reading {
 impl Reading {
     /// Whether the file is clean: no refusal, and the reading stopped at its end. Only to a clean file can
     /// [`append`](crate::append) append.
+    ///
+    /// ```
+    /// let file = std::fs::read("../samples/two-chunks.ads")?;
+    /// assert!(ads::read_all(&file).reading.is_clean(&file));
+    /// let cut = &file[..file.len() - 1];
+    /// assert!(!ads::read_all(cut).reading.is_clean(cut));
+    /// # Ok::<(), std::io::Error>(())
+    /// ```
     pub fn is_clean(&self, file: &[u8]) -> bool {
         let reading = ffi::Reading {
             count: self.count,
@@ -74,8 +102,17 @@ impl Reading {
     }
 }
 
+/// The table of a file, by [`read_all`](crate::read_all).
+#[derive(Clone, Debug, PartialEq, Eq, Hash)]
+pub struct Table {
+    /// As many rows as the reading counts.
+    pub rows: Vec<Row>,
+    /// Where the reading stopped, and at what.
+    pub reading: Reading,
+}
+
 /// A parent that was found.
-#[derive(Clone, Copy, Debug, PartialEq, Eq)]
+#[derive(Clone, Copy, Debug, PartialEq, Eq, Hash)]
 pub struct Parent {
     /// The row with the dependency's serial number.
     pub row: usize,
@@ -83,10 +120,13 @@ pub struct Parent {
     pub agree: bool,
 }
 
-/// The ends of append's three writes: header with content length line, data, closing.
-#[derive(Clone, Copy, Debug, PartialEq, Eq)]
+/// The ends of append's three writes.
+#[derive(Clone, Copy, Debug, PartialEq, Eq, Hash)]
 pub struct Ends {
+    /// Of the header with its content length line.
     pub first: usize,
+    /// Of the data.
     pub second: usize,
+    /// Of the closing.
     pub third: usize,
 }

@@ -66,12 +66,7 @@ extern "C" {
         buffer: *mut u8,
         buffer_length: usize,
     ) -> Written;
-    pub fn ads_listing(
-        input: *const u8,
-        length: usize,
-        buffer: *mut u8,
-        buffer_length: usize,
-    ) -> Written;
+    pub fn ads_listing(input: *const u8, length: usize, buffer: *mut u8, buffer_length: usize) -> Written;
     pub fn ads_append(
         buffer: *mut u8,
         buffer_length: usize,
@@ -97,16 +92,6 @@ extern "C" {
     pub fn ads_slave_event(d: Description, serial: *const u8) -> Description;
     pub fn ads_master_event(d: Description, serial: *const u8) -> Description;
     pub fn ads_serial_number(d: Description, serial: *const u8) -> Description;
-    pub fn ads_recording(
-        d: Description,
-        date: *const u8,
-        agent: *const u8,
-        length: usize,
-    ) -> Description;
-    pub fn ads_writing(
-        d: Description,
-        date: *const u8,
-        agent: *const u8,
-        length: usize,
-    ) -> Description;
+    pub fn ads_recording(d: Description, date: *const u8, agent: *const u8, length: usize) -> Description;
+    pub fn ads_writing(d: Description, date: *const u8, agent: *const u8, length: usize) -> Description;
 }

@@ -1,22 +1,17 @@
 //! The sample of the specification, and one answer of each kind from every call.
-use ads::{Description, Ends, Parent, Row};
+use ads::{Description, Ends, Header, Parent, Refusal, Row};
 
-const HEADER: &[u8; 38] = b"#20240101000000000SURVEYDESK0100001196";
+const HEADER: Header = Header {
+    strategy: b"LLC",
+    mark: b"",
+    serial: b"#20240101000000000SURVEYDESK0100001196",
+    recorded: b"20240229",
+    recorder: b"RECORDER",
+    written: b"20240301",
+    writer: b"DESK",
+};
 const FIRST: &[u8; 38] = b"#20240229123456789SURVEYDESK0100042001";
 const SECOND: &[u8; 38] = b"#20240229123456789SURVEYDESK0100043002";
-
-fn begun(strategy: &[u8; 3], mark: &[u8], buffer: &mut [u8]) -> Result<usize, ads::Refusal> {
-    ads::begin(
-        strategy,
-        mark,
-        HEADER,
-        b"20240229",
-        b"RECORDER",
-        b"20240301",
-        b"DESK",
-        buffer,
-    )
-}
 
 fn described(serial: &[u8; 38]) -> Description {
     Description::new()
@@ -31,57 +26,9 @@ fn described(serial: &[u8; 38]) -> Description {
         .writing(b"20240301", b"DESK")
 }
 
-/// A LLC000 file with one chunk of 3 bytes, and its length.
-fn sample() -> ([u8; 4096], usize) {
-    let mut buffer = [7; 4096];
-    let length = begun(b"LLC", b"", &mut buffer).unwrap();
-    assert_eq!(length, 319);
-    let ends = ads::append(
-        &mut buffer,
-        length,
-        described(FIRST),
-        &[],
-        b"",
-        b"abc",
-        false,
-    );
-    assert_eq!(
-        ends,
-        Ok(Ends {
-            first: 921,
-            second: 924,
-            third: 1178
-        })
-    );
-    assert!(buffer[1178..].iter().all(|byte| *byte == 7));
-    (buffer, 1178)
-}
-
-#[test]
-fn listing_of_the_sample() {
-    let (buffer, length) = sample();
-    let mut text = [0; 10240];
-    let n = ads::listing(&buffer[..length], &mut text).unwrap();
-    let expected = "header good\nchunks 1\n\
-                    0 319 568 3 good #20240229123456789SURVEYDESK0100042001\nend 1178 0\n";
-    assert_eq!(std::str::from_utf8(&text[..n]), Ok(expected));
-    let short = ads::listing(&buffer[..length], &mut text[..n - 1]);
-    assert_eq!(short.unwrap_err().number(), 18);
-}
-
-#[test]
-fn rows_of_the_sample() {
-    let (buffer, length) = sample();
-    let file = &buffer[..length];
-    let kept = Row {
-        place: 1,
-        good: true,
-        ..Row::default()
-    };
-    let mut rows = [kept; 2];
-    let reading = ads::read(file, &mut rows);
-    assert!(reading.is_clean(file) && reading.good && reading.count == 1);
-    let row = Row {
+/// The row of the sample's chunk.
+fn first_row() -> Row {
+    Row {
         serial: *FIRST,
         place: 319,
         header: 568,
@@ -92,17 +39,83 @@ fn rows_of_the_sample() {
         offset: 80_350_000_000,
         multichunk: false,
         good: true,
-    };
-    assert_eq!(rows, [row, kept]);
+    }
+}
+
+/// A LLC000 file with one chunk of 3 bytes, and its length.
+fn sample() -> ([u8; 4096], usize) {
+    let mut buffer = [7; 4096];
+    let length = ads::begin(&HEADER, &mut buffer).unwrap();
+    assert_eq!(length, 319);
+    let ends = ads::append(&mut buffer, length, described(FIRST), &[], b"", b"abc", false);
+    assert_eq!(ends, Ok(Ends { first: 921, second: 924, third: 1178 }));
+    assert!(buffer[1178..].iter().all(|byte| *byte == 7));
+    (buffer, 1178)
+}
+
+#[test]
+fn listing_of_the_sample() {
+    let (buffer, length) = sample();
+    let mut text = [0; ads::LISTING_ROOM];
+    let n = ads::listing(&buffer[..length], &mut text).unwrap();
+    let expected = "header good\nchunks 1\n\
+                    0 319 568 3 good #20240229123456789SURVEYDESK0100042001\nend 1178 0\n";
+    assert_eq!(std::str::from_utf8(&text[..n]), Ok(expected));
+    assert_eq!(ads::listing(&buffer[..length], &mut text[..n - 1]), Err(Refusal::NoRoom));
+}
+
+#[test]
+fn rows_of_the_sample() {
+    let (buffer, length) = sample();
+    let file = &buffer[..length];
+    let kept = Row { place: 1, good: true, ..Row::default() };
+    let mut rows = [kept; 2];
+    let reading = ads::read(file, &mut rows);
+    assert!(reading.is_clean(file) && reading.good && reading.count == 1);
+    assert_eq!(rows, [first_row(), kept]);
     assert_eq!(ads::contents(file, 0), Ok(&b"abc"[..]));
-    assert_eq!(ads::contents(file, 1).unwrap_err().number(), 13);
+    assert_eq!(ads::contents(file, 1), Err(Refusal::NoRow));
 
     let cut = ads::read(&file[..1000], &mut rows);
-    assert_eq!((cut.count, cut.stop, cut.good), (0, 319, true));
-    assert_eq!(cut.refusal.map(|r| r.number()), Some(4));
+    assert_eq!((cut.count, cut.stop, cut.good, cut.refusal), (0, 319, true, Some(Refusal::Cut)));
     assert!(!cut.is_clean(&file[..1000]) && !reading.is_clean(&file[..1177]));
-    let full = ads::read(file, &mut []);
-    assert_eq!(full.refusal.map(|r| r.number()), Some(10));
+    assert_eq!(ads::read(file, &mut []).refusal, Some(Refusal::RowsFull));
+}
+
+#[test]
+fn all_rows() {
+    let (buffer, length) = sample();
+    let table = ads::read_all(&buffer[..length]);
+    assert_eq!(table.rows, [first_row()]);
+    assert!(table.reading.is_clean(&buffer[..length]));
+
+    let none = ads::read_all(b"");
+    assert_eq!((none.rows.len(), none.rows.capacity(), none.reading.stop), (0, 0, 0));
+    assert_eq!(none.reading.refusal, Some(Refusal::Cut));
+
+    // the smallest chunks, as many as a file of this length can have
+    let mut file = buffer[..319].to_vec();
+    for number in 0..300 {
+        let first = format!("#20240229123456789SURVEYDESK01{number:05}");
+        let serial = format!("{first}{:03}", first.bytes().fold(0, u8::wrapping_add));
+        let length = file.len();
+        file.resize(ads::append_room(length, 0, 0, 0, 0), 0);
+        let description = described(serial.as_bytes().try_into().unwrap());
+        let ends = ads::append(&mut file, length, description, &[], b"", b"", false).unwrap();
+        assert_eq!(ends.third, file.len());
+    }
+    let table = ads::read_all(&file);
+    assert!(table.reading.is_clean(&file));
+    assert_eq!((table.rows.len(), table.rows.capacity(), ads::most_rows(file.len())), (300, 300, 301));
+    assert!(table.rows.iter().all(|row| row.good && row.end - row.place == 856));
+}
+
+#[test]
+fn over_the_limit() {
+    // memory that is only claimed: the call refuses before it looks at a byte
+    let file = vec![0; ads::MOST_BYTES + 1];
+    let table = ads::read_all(&file);
+    assert_eq!((table.rows.len(), table.reading.stop, table.reading.refusal), (0, 0, Some(Refusal::Limit)));
 }
 
 #[test]
@@ -110,18 +123,15 @@ fn a_chunk_with_parents() {
     let (mut buffer, length) = sample();
     let by_row = described(SECOND).master_event(FIRST);
     let ends = ads::append(&mut buffer, length, by_row, &[0], b"specific", b"", false).unwrap();
+    assert_eq!(ends.third, ads::append_room(length, 0, 1, 8, 0));
     let file = &buffer[..ends.third];
-    let found = Parent {
-        row: 0,
-        agree: true,
-    };
-    assert_eq!(ads::parent(file, 1, 0), Ok(Some(found)));
-    assert_eq!(ads::parent(file, 1, 1).unwrap_err().number(), 14);
-    assert_eq!(ads::parent(file, 2, 0).unwrap_err().number(), 13);
+    assert_eq!(ads::parent(file, 1, 0), Ok(Some(Parent { row: 0, agree: true })));
+    assert_eq!(ads::parent(file, 1, 1), Err(Refusal::NoDependency));
+    assert_eq!(ads::parent(file, 2, 0), Err(Refusal::NoRow));
 
     // the sample's serial number, in another file, is nobody's: the parent is missing
     let mut other = [0; 4096];
-    let start = begun(b"LLC", b"", &mut other).unwrap();
+    let start = ads::begin(&HEADER, &mut other).unwrap();
     other[start..][..ends.third - length].copy_from_slice(&file[length..]);
     let alone = &other[..start + ends.third - length];
     assert_eq!(ads::parent(alone, 0, 0), Ok(None));
@@ -132,58 +142,56 @@ fn a_chunk_with_parents() {
 fn refusals() {
     let (mut buffer, length) = sample();
     let before = buffer;
-    let again = ads::append(
-        &mut buffer,
-        length,
-        described(FIRST),
-        &[],
-        b"",
-        b"abc",
-        false,
-    );
-    assert_eq!(again.unwrap_err().number(), 9);
-    let open = ads::append(
-        &mut buffer,
-        length,
-        described(SECOND),
-        &[],
-        b"",
-        b"abc",
-        true,
-    );
-    assert_eq!(open.unwrap_err().number(), 16);
-    let bare = ads::append(
-        &mut buffer,
-        length,
-        Description::new(),
-        &[],
-        b"",
-        b"",
-        false,
-    );
-    let bare = bare.unwrap_err();
+    let again = ads::append(&mut buffer, length, described(FIRST), &[], b"", b"abc", false);
+    assert_eq!(again, Err(Refusal::Repeated));
+    let open = ads::append(&mut buffer, length, described(SECOND), &[], b"", b"abc", true);
+    assert_eq!(open, Err(Refusal::Open));
+    let bare = ads::append(&mut buffer, length, Description::new(), &[], b"", b"", false).unwrap_err();
     assert_eq!(bare.to_string(), "a field is out of form or range (6)");
-    assert_eq!(begun(b"NUL", b"", &mut buffer).unwrap_err().number(), 2);
+    let on_tape = Header { strategy: b"NUL", ..HEADER };
+    assert_eq!(ads::begin(&on_tape, &mut buffer), Err(Refusal::Tape));
     assert_eq!(buffer, before);
 
     let mut gathered = [0; 16];
-    let plain = ads::gather(&buffer[..length], 0, b"ID", &mut gathered);
-    assert_eq!(plain.unwrap_err().number(), 14);
+    assert_eq!(ads::gather(&buffer[..length], 0, b"ID", &mut gathered), Err(Refusal::NoDependency));
+}
+
+#[test]
+fn numbers_of_refusals() {
+    for number in 0..=u8::MAX {
+        let refusal = Refusal::from_number(number);
+        assert_eq!(refusal.is_some(), (1..=18).contains(&number));
+        assert!(refusal.is_none_or(|refusal| refusal.number() == number && u8::from(refusal) == number));
+    }
+    assert!(Refusal::Title < Refusal::NoRoom);
+    let error: Box<dyn std::error::Error> = Refusal::NotClean.into();
+    assert_eq!(error.to_string(), "the file isn't clean (12)");
+}
+
+#[test]
+fn shown_as_text() {
+    let row = format!("{:?}", first_row());
+    assert!(row.starts_with("Row { serial: b\"#20240229123456789SURVEYDESK0100042001\", place: 319, header: 568,"));
+    let header = format!("{:?}", Header { mark: b"*\n", ..HEADER });
+    assert!(header.starts_with("Header { strategy: b\"LLC\", mark: b\"*\\n\", serial: b\"#2024"));
+
+    let description = format!("{:?}", described(FIRST).sub_format(&[b'A'; 300]).time_standard(b"NUL"));
+    assert!(description.contains("AAAA\".. of 300 bytes, generic: b\"TXT\""));
+    assert!(description.contains("standard: b\"NUL\", alternate: b\"\", offset: b\"+0000      8.035\""));
+    assert!(description.contains("recorded: b\"20240229\", recorder: b\"RECORDER\""));
+    assert!(format!("{:?}", Description::new()).contains("subformat: b\"\", generic: unset"));
 }
 
 #[test]
 fn mini_chunks() {
-    let file = include_bytes!("../../crates/listing_multi/stdin");
-    let mut rows = [Row::default(); 2];
-    let reading = ads::read(file, &mut rows);
-    assert!(reading.is_clean(file) && reading.count == 1 && rows[0].multichunk);
+    let file = include_bytes!("../../samples/multichunk.ads");
+    let table = ads::read_all(file);
+    assert!(table.reading.is_clean(file) && table.rows.len() == 1 && table.rows[0].multichunk);
 
     let mut joined = [7; 8];
     assert_eq!(ads::gather(file, 0, b"P2/91", &mut joined), Ok(5));
     assert_eq!(&joined, b"12345\x07\x07\x07");
-    let undeclared = ads::gather(file, 0, b"P1/90", &mut joined);
-    assert_eq!(undeclared.unwrap_err().number(), 14);
-    let short = ads::gather(file, 0, b"P2/91", &mut joined[..4]);
-    assert_eq!(short.unwrap_err().number(), 18);
+    assert_eq!(ads::gather(file, 0, b"P1/90", &mut joined), Err(Refusal::NoDependency));
+    assert_eq!(ads::gather(file, 0, b"P2/91", &mut joined[..4]), Err(Refusal::NoRoom));
     assert_eq!(&joined, b"12345\x07\x07\x07");
 }

@@ -1,6 +1,5 @@
 // The listing program's input and output: standard input is read into a local array of one byte more than a file may
-// have, the text is made by the crate listing_text, and written to standard output. Nothing is decided here; each program
-// over it has its own stored input and output.
+// have, the text is made by the crate listing_text, and written to standard output. Nothing is decided here.
 ghost use mathlib.Core.Path.{_≡_};
 ghost use Rattle.listing_io.specs.Length.{lengthOf};
 use libc::STDIN_FILENO;

@@ -35,7 +35,9 @@ pub fn parent(file: &[u8], row: usize, dependency: usize) -> ParentAnswer
     ensures { λ r. ⌜ parentAnswer r ≡ parent (now (file .entry)) row dependency ⌝ }
 {
     let mut index = [0u32; walk::INDEX];
-    let own = walk::row_of(file, row, &mut index);
+    let half = row / 2;
+    let middle = walk::row_of(file, half, &mut index);
+    let own = walk::row_behind(file, half, middle, row, &mut index);
     if own.number != 0 {
         return ParentAnswer::Refused(own.number);
     }
@@ -44,7 +46,7 @@ pub fn parent(file: &[u8], row: usize, dependency: usize) -> ParentAnswer
     }
     let at = own.at + places::DEPENDENCIES + places::DEPENDENCY_BYTES * dependency;
     let serial = serial_at(file, at + places::DEPENDENCY_SERIAL);
-    let found = walk::row_with(file, own, serial, &mut index);
+    let found = walk::row_with(file, own, half, middle.at, serial, &mut index);
     if !found.there {
         return ParentAnswer::Missing;
     }

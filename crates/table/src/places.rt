@@ -1,5 +1,5 @@
 // Distances of the values that later code takes, each the sum of the table's own bytes before it: a line is its label, its
-// value and LF.
+// value and LF. Only the ten bytes of a mini-chunk's label, which is no line of the table, are a number of their own.
 use crate::rows;
 
 // ---- the file header, from its first byte

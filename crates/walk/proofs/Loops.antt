@@ -2,19 +2,19 @@
 --     given-..          the chunk and its serial number, from the parts of the file that are handed on
 --     turn              from one row to the next
 --     step-..           the answers of a step
---     seen-passed with-there   the serial number of the chunk of a row, compared
---     among-.. numbered-..     the answers on a serial number
+--     seen-passed with-there row-only row-other   the serial number of the chunk of a row, compared
+--     numbered-.. between-.. late-there early-there   the answers on a serial number
 -- Assumes nothing.
-use Prim.Native.Nat.{ℕ, suc, _+_, _-_, _≤_, _<_, min}
-use mathlib.Core.Bool.{Bool, true, false, not}
+use Prim.Native.Nat.{ℕ, suc, _+_, _-_, _≤_, _<_}
+use mathlib.Core.Bool.{Bool, true, false, not, _&&_}
 use mathlib.Core.Path.{_≡_, refl, sym, ap, _∙_}
 use mathlib.Core.List.{List, []}
 use native.Mathlib.Omega.{arith}
 use native.Mathlib.Numerals.{add-one}
-use lib.Dec.{ltb}
+use lib.Dec.{leb, ltb}
 use lib.ListN.{length, take, drop, length-drop}
 use lib.Seq.{drop-length}
-use borrow.Author.Tests.{lt-ltb, le-ltb, ltb-true}
+use borrow.Author.Tests.{le-leb, leb-true, lt-ltb, le-ltb, ltb-true, ltb-false}
 use Rattle.metafile.specs.Bytes.{_⊳_, require, isEmpty}
 use Rattle.metafile.specs.Fields.{sameSerial, known}
 use Rattle.metafile.specs.Header.{isLLC, markLength, markOf, headerFault}
@@ -22,17 +22,18 @@ use Rattle.metafile.specs.Chunk.{chunkFault, chunkEnd, serialOf}
 use Rattle.metafile.specs.Reading.{nextFault, reading, rowsOf, serialsOf}
 use Rattle.metafile.specs.Append.{rowNo}
 use Rattle.metafile.specs.Calls.{rowWith}
-use Rattle.laws.proofs.First.{test, cases, untrue, ⊳-stop, ⊳-go, require-met, require-unmet, choose-go, choose-stop}
+use Rattle.laws.proofs.First.{test, cases, untrue, and-both, ⊳-stop, ⊳-go, require-met, require-unmet, choose-go, choose-stop}
 use Rattle.laws.proofs.Loops.{part-drop}
 use Rattle.chunk_laws.proofs.Rows.{some-bytes}
 use Rattle.chunk_laws.proofs.File.{file-few}
+use Rattle.chunk_laws.proofs.Serials.{file-fresh}
 use Rattle.chunk.specs.declared.parts.Layout.{Layout}
 use Rattle.walk.specs.declared.answers.Numbered.{Numbered}
 use Rattle.chunk.specs.Layout.{layoutOf, partsOf, faulty, WholeLayout}
-use Rattle.walk.specs.Walk.{placeAfter, chunkAt, stopWith, stepOf, numberedOf, amongOf}
+use Rattle.walk.specs.Walk.{placeAfter, chunkAt, stopWith, stepOf, numberedOf, betweenOf}
 use Rattle.walk.proofs.Stages.{mark-part}
 use Rattle.walk.proofs.Steps.{serialsPast, restAfter, faultAfter, Stopped, after-cases, row-place, row-serial, row-unfaulted, place-suc, place-fits}
-use Rattle.walk.proofs.Serials.{known-past, known-more, with-here, with-least, known-with}
+use Rattle.walk.proofs.Serials.{known-past, known-more, with-here, with-least, known-with, with-only, with-other}
 
 -- ---- the chunk at a place
 
@@ -200,11 +201,16 @@ module _ (x file : List ℕ) (e : headerFault file ≡ 0) (j at : ℕ) (h : j < 
   with-there : known x (serialsOf (take j (rowsOf file))) ≡ false → b ≡ true → j ≡ rowWith x (rowsOf file)
   with-there k y = with-here x (rowsOf file) j h k (sym same-row ∙ y)
 
-  pub among-here : (i : ℕ) → j < i → known x (serialsOf (take j (rowsOf file))) ≡ false → b ≡ true → record { there = true; row = j; place = at } ≡ amongOf file i x
-  unfolding amongOf
-  among-here i l k y =
-      let least : min j i ≡ j = omega arith in
-      rw (← with-there k y, lt-ltb j i l, least, p)
+  -- without a look at the rows before it: serial numbers are in one row only
+  pub row-only : b ≡ true → rowWith x (rowsOf file) ≡ j
+  row-only y = with-only x (rowsOf file) j h (file-fresh file) (sym same-row ∙ y)
+
+  pub row-other : b ≡ false → rowWith x (rowsOf file) ≡ j → ⊥
+  row-other y = with-other x (rowsOf file) j h (sym same-row ∙ y)
+
+  pub between-here : (i k : ℕ) → i ≤ j → j < k → b ≡ true → record { there = true; row = j; place = at } ≡ betweenOf file i k x
+  unfolding betweenOf
+  between-here i k l m y = rw (row-only y, le-leb i j l, lt-ltb j k m, p)
 
   pub numbered-here : known x (serialsOf (take j (rowsOf file))) ≡ false → b ≡ true → record { there = true; row = j; place = at } ≡ numberedOf file x
   unfolding numberedOf
@@ -212,27 +218,52 @@ module _ (x file : List ℕ) (e : headerFault file ≡ 0) (j at : ℕ) (h : j < 
 
 -- no row of the first i has the serial number
 module _ (x file : List ℕ) (i : ℕ) (h : i ≤ length (rowsOf file)) (k : known x (serialsOf (take i (rowsOf file))) ≡ false) where
-  pub among-none : (at : ℕ) → at ≡ placeAfter file i → record { there = false; row = i; place = at } ≡ amongOf file i x
-  unfolding amongOf
-  among-none at p =
-      let l = with-least x (rowsOf file) i h k in
-      let least : min (rowWith x (rowsOf file)) i ≡ i = omega arith in
-      rw (le-ltb (rowWith x (rowsOf file)) i l, least, p)
-
   pub numbered-none : length (rowsOf file) ≤ i → record { there = false; row = 0; place = 0 } ≡ numberedOf file x
   unfolding numberedOf
   numbered-none l = rw (le-ltb (rowWith x (rowsOf file)) (length (rowsOf file)) (omega (arith, with-least x (rowsOf file) i h k)))
 
--- what a search among the first i rows answers
-module _ (x file : List ℕ) (i : ℕ) (h : i ≤ length (rowsOf file)) (r : Numbered) (is : r ≡ amongOf file i x) where
-  pub among-known : r .there ≡ known x (serialsOf (take i (rowsOf file)))
-  unfolding amongOf
-  among-known = ap (λ (y : Numbered). y .there) is ∙ known-with x (rowsOf file) i h
+-- ---- a search among the rows from i up to k
 
-  pub among-there : headerFault file ≡ 0 → r .there ≡ true → r ≡ numberedOf file x
-  unfolding amongOf numberedOf
-  among-there e y =
-      let l : rowWith x (rowsOf file) < i = ltb-true _ _ (sym (ap (λ (y : Numbered). y .there) is) ∙ y) in
-      let least : min (rowWith x (rowsOf file)) i ≡ rowWith x (rowsOf file) = omega arith in
-      let inside : rowWith x (rowsOf file) < length (rowsOf file) = omega arith in
-      is ∙ rw (lt-ltb _ _ l, lt-ltb _ _ inside, least, row-place file e (rowWith x (rowsOf file)) inside)
+module _ (x file : List ℕ) (i k : ℕ) where
+  pub between-none : (i ≤ rowWith x (rowsOf file) → k ≤ rowWith x (rowsOf file)) → (at : ℕ) → at ≡ placeAfter file k
+      → record { there = false; row = k; place = at } ≡ betweenOf file i k x
+  unfolding betweenOf
+  between-none f at p =
+      test (leb i (rowWith x (rowsOf file)))
+      (λ q. rw (q, le-ltb (rowWith x (rowsOf file)) k (f (leb-true _ _ q)), p))
+      (λ q. rw (q, p))
+
+  module _ (r : Numbered) (is : r ≡ betweenOf file i k x) where
+    pub between-is : r .there ≡ (leb i (rowWith x (rowsOf file)) && ltb (rowWith x (rowsOf file)) k)
+    unfolding betweenOf
+    between-is = ap (λ (y : Numbered). y .there) is ∙ test (leb i (rowWith x (rowsOf file)) && ltb (rowWith x (rowsOf file)) k) (λ q. rw q) (λ q. rw q)
+
+    pub between-there : headerFault file ≡ 0 → k ≤ length (rowsOf file) → r .there ≡ true → r ≡ numberedOf file x
+    unfolding betweenOf numberedOf
+    between-there e h y =
+        let q = sym between-is ∙ y in
+        let l : rowWith x (rowsOf file) < k = ltb-true _ _ (and-both (leb i (rowWith x (rowsOf file))) (ltb (rowWith x (rowsOf file)) k) q .1) in
+        let inside : rowWith x (rowsOf file) < length (rowsOf file) = omega arith in
+        is ∙ rw (q, lt-ltb _ _ inside, row-place file e (rowWith x (rowsOf file)) inside)
+
+-- from the first row on
+pub between-known : (x file : List ℕ) (k : ℕ) → k ≤ length (rowsOf file) → (r : Numbered) → r ≡ betweenOf file 0 k x → r .there ≡ known x (serialsOf (take k (rowsOf file)))
+between-known x file k h r is =
+    between-is x file 0 k r is ∙ rw (le-leb 0 (rowWith x (rowsOf file)) (omega arith)) (known-with x (rowsOf file) k h)
+
+-- first from row m up to row i, then before row m
+module _ (x file : List ℕ) (m i : ℕ) (l : m ≤ i) (r : Numbered) (is : r ≡ betweenOf file m i x) where
+  pub late-there : r .there ≡ true → r .there ≡ ltb (rowWith x (rowsOf file)) i
+  late-there y =
+      let w = rowWith x (rowsOf file) in
+      y ∙ sym (and-both (leb m w) (ltb w i) (sym (between-is x file m i r is) ∙ y) .1)
+
+  pub early-there : r .there ≡ false → (u : Numbered) → u ≡ betweenOf file 0 m x → u .there ≡ ltb (rowWith x (rowsOf file)) i
+  early-there n u e =
+      let w = rowWith x (rowsOf file) in
+      let none = sym (between-is x file m i r is) ∙ n in
+      between-is x file 0 m u e
+      ∙ rw (le-leb 0 w (omega arith))
+      (test (ltb w m)
+      (λ q. q ∙ sym (lt-ltb w i (omega (arith, ltb-true w m q))))
+      (λ q. q ∙ sym (rw (le-leb m w (ltb-false w m q)) at none)))

@@ -5,6 +5,8 @@
 --     named-..            the answers of row_of
 --     number-is refused   its number is that of the first test that refuses, whichever tests follow
 --     Named, named        the row is there: its parts, by the layout of its chunk, and inside the file
+--     named-small         the file is within the limit
+--     named-later earlier-place   what was answered for an earlier row
 -- Assumes nothing.
 use Prim.Native.Nat.{ℕ, suc, _+_, _≤_, _<_}
 use mathlib.Core.Bool.{Bool, true, false}
@@ -13,7 +15,7 @@ use mathlib.Core.List.{List, [], _∷_}
 use native.Mathlib.Omega.{arith}
 use lib.Dec.{leb, ltb}
 use lib.ListN.{length, drop}
-use borrow.Author.Tests.{lt-ltb, le-ltb, le-leb, lt-leb, leb-false}
+use borrow.Author.Tests.{lt-ltb, le-ltb, ltb-false, le-leb, lt-leb, leb-true, leb-false}
 use Rattle.metafile.specs.declared.Row.{Row}
 use Rattle.metafile.specs.Header.{isLLC, markOf, headerFault}
 use Rattle.metafile.specs.Chunk.{chunkFault, rowAt}
@@ -31,7 +33,7 @@ use Rattle.walk.specs.declared.cursor.Cursor.{Cursor}
 use Rattle.walk.specs.Walk.{headerOf, placeAfter, chunkAt}
 use Rattle.walk.specs.Index.{Indexed}
 use Rattle.walk.specs.Cursor.{cursorOf, cursorNone, cursorAt, At, namedOf}
-use Rattle.walk.proofs.Steps.{row-is, row-unfaulted}
+use Rattle.walk.proofs.Steps.{row-is, row-place, row-unfaulted}
 use Rattle.walk.proofs.Cursors.{cursor-row}
 
 -- ---- 11
@@ -52,6 +54,14 @@ unfolding firstRefusal refuse
 tests-stop true b ts h = refl
 tests-stop false true ts h = refl
 tests-stop false false ts h = absurd (h refl)
+
+-- where one of them refuses, a later row is refused with the same number
+tests-later : (a b d : Bool) → (b ≡ true → d ≡ true) → (firstRefusal (refuse 11 a ∷ refuse 13 b ∷ []) ≡ 0 → ⊥)
+    → firstRefusal (refuse 11 a ∷ refuse 13 d ∷ []) ≡ firstRefusal (refuse 11 a ∷ refuse 13 b ∷ [])
+unfolding firstRefusal refuse
+tests-later true b d f h = refl
+tests-later false true d f h = rw (f refl)
+tests-later false false d f h = absurd (h refl)
 
 -- ---- the answers of row_of
 
@@ -89,6 +99,10 @@ pub record Named (file : List ℕ) (k : ℕ) (c : Cursor) : Type 0 where
   pub bytes-is : c .layout .bytes ≡ rowNo (rowsOf file) k .bytes
   pub dependencies-is : c .layout .dependencies ≡ rowNo (rowsOf file) k .dependencies
   pub multichunk-is : c .layout .multichunk ≡ rowNo (rowsOf file) k .multichunk
+
+-- the file header is whole
+place-begun : {file : List ℕ} {k : ℕ} {c : Cursor} → Named file k c → headerFault file ≡ 0
+place-begun {file} w = header-cases file (λ q. q) (λ q. absurd (omega (arith, w .in-rows, ap length (rows-unbegun file q))))
 
 -- no test refuses
 pub none-passed : (file : List ℕ) (k : ℕ) → firstRefusal (contentsTests file k) ≡ 0 → (overLimit (length file ∷ []) ≡ false) × (k < length (rowsOf file))
@@ -149,6 +163,33 @@ module _ (file : List ℕ) (k : ℕ) (c : Cursor) (e : c ≡ namedOf file k) whe
   pub refused : (c .number ≡ 0 → ⊥) → (ts : List Test) → firstRefusal (refuse 11 (overLimit (length file ∷ [])) ∷ refuse 13 (leb (length (rowsOf file)) k) ∷ ts) ≡ c .number
   unfolding contentsTests
   refused z ts = tests-stop _ _ ts (λ q. z (number-is ∙ q)) ∙ sym number-is
+
+pub named-small : {file : List ℕ} {k : ℕ} {c : Cursor} → Named file k c → length file ≤ 1073741824
+unfolding overLimit limit
+named-small {file} w = ltb-false 1073741824 (length file) (or-false (ltb 1073741824 (length file)) false (w .file-small) .0)
+
+-- what is answered for row m, for a later row: the same number, or a place on the way to it
+module _ (file : List ℕ) (m k : ℕ) (l : m ≤ k) (c : Cursor) (e : c ≡ namedOf file m) where
+  pub named-later : (c .number ≡ 0 → ⊥) → c ≡ namedOf file k
+  unfolding namedOf contentsTests
+  named-later z =
+      let stop : firstRefusal (contentsTests file m) ≡ 0 → ⊥ = λ q. z (number-is file m c e ∙ q) in
+      let same : firstRefusal (contentsTests file k) ≡ firstRefusal (contentsTests file m) =
+      tests-later _ _ _ (λ q. le-leb (length (rowsOf file)) k (omega (arith, leb-true (length (rowsOf file)) m q))) stop in
+      e
+      ∙ choose-stop (firstRefusal (contentsTests file m)) _ _ stop
+      ∙ ap cursorNone (sym same)
+      ∙ sym (choose-stop (firstRefusal (contentsTests file k)) _ _ (λ q. stop (sym same ∙ q)))
+
+  pub named-earlier : {own : Cursor} → Named file k own → Named file m c
+  unfolding contentsTests
+  named-earlier w =
+      named file m c e (number-is file m c e ∙ tests-on _ _ m [] (w .file-small) (omega (arith, w .in-rows)) ∙ tests-end)
+
+  pub earlier-place : {own : Cursor} → Named file k own → c .at ≡ placeAfter file m
+  earlier-place w =
+      let n = named-earlier w in
+      n .place-is ∙ row-place file (place-begun n) m (n .in-rows)
 
 pub named-at : {file : List ℕ} {k : ℕ} {c : Cursor} → Named file k c → {index : List ℕ} → Indexed file (k + 1) index → At file c index
 named-at w more = record { is = w .is; few = omega (arith, w .in-rows, w .row-is); indexed = rw (w .row-is) more }

@@ -3,6 +3,7 @@
 --     known-none known-more               row by row
 --     with-here                           the row that has it
 --     with-least with-before known-with   that row, by whether the first rows have it
+--     with-only with-other                serial numbers are in one row only: a row that has it, one that hasn't
 --     serial-place-..                     the serial number of a row is the 38 bytes at its place in the file, which is not 0
 -- Assumes nothing.
 use Prim.Native.Nat.{ℕ, zero, suc, _+_, _-_, _≤_, _<_}
@@ -23,7 +24,9 @@ use Rattle.metafile.specs.Reading.{serialsOf}
 use Rattle.metafile.specs.Append.{noRow, rowNo}
 use Rattle.metafile.specs.Calls.{rowWith}
 use Rattle.laws.proofs.First.{test, untrue, or-false, or-none}
+use Rattle.laws.proofs.Lists.{same-eq}
 use Rattle.chunk_laws.proofs.Rows.{past}
+use Rattle.chunk_laws.proofs.Serials.{fresh, rowWith-self}
 use Rattle.chunk_laws.proofs.Places.{Placed, placed-end}
 
 or-assoc : (a b c : Bool) → (a || (b || c)) ≡ ((a || b) || c)
@@ -90,6 +93,20 @@ module _ (x : List ℕ) where
       test (known x (serialsOf (take i rows)))
       (λ q. rw q (lt-ltb _ _ (with-before rows i q)))
       (λ q. rw q (le-ltb _ _ (with-least rows i h q)))
+
+  -- a row that has it is that row, whatever stands before it
+  pub with-only : (rows : List Row) (i : ℕ) → i < length rows → fresh [] rows ≡ true → sameSerial x (rowNo rows i .serial) ≡ true → rowWith x rows ≡ i
+  unfolding sameSerial
+  with-only rows i h f q = rw (same-eq x (rowNo rows i .serial) q) (rowWith-self rows [] i h f)
+
+  pub with-other : (rows : List Row) (i : ℕ) → i < length rows → sameSerial x (rowNo rows i .serial) ≡ false → rowWith x rows ≡ i → ⊥
+  unfolding rowWith rowNo
+  with-other [] i h q w = omega arith
+  with-other (r ∷ rs) zero h q w = omega (arith, rw q at w)
+  with-other (r ∷ rs) (suc i) h q w =
+      test (sameSerial x (r .serial))
+      (λ y. omega (arith, rw y at w))
+      (λ y. with-other rs i (omega arith) q (omega (arith, rw y at w)))
 
 -- ---- the serial number of a row, at its place in the file
 

@@ -1,9 +1,9 @@
 -- What the functions of this crate answer, by the definitions of the crate metafile: the file header, one step of the
 -- reading ("Reading"), and a row by its serial number. Assumes nothing.
-use Prim.Native.Nat.{ℕ, zero, suc, min}
-use mathlib.Core.Bool.{true, false, cond}
+use Prim.Native.Nat.{ℕ, zero, suc}
+use mathlib.Core.Bool.{true, false, cond, _&&_}
 use mathlib.Core.List.{List}
-use lib.Dec.{ltb}
+use lib.Dec.{leb, ltb}
 use lib.ListN.{length, drop}
 use Rattle.metafile.specs.declared.Row.{Row}
 use Rattle.metafile.specs.Bytes.{choose}
@@ -59,11 +59,9 @@ numberedOf file x =
     (record { there = true; row = rowWith x (rowsOf file); place = rowNo (rowsOf file) (rowWith x (rowsOf file)) .place })
     (record { there = false; row = 0; place = 0 })
 
--- the same among the first i rows; where there is none, i and where the last of them ends
-unfoldable pub amongOf : List ℕ → ℕ → List ℕ → Numbered
-amongOf file i x =
-    record {
-      there = ltb (rowWith x (rowsOf file)) i;
-      row = min (rowWith x (rowsOf file)) i;
-      place = placeAfter file (min (rowWith x (rowsOf file)) i);
-    }
+-- the same among the rows from i up to k; where there is none, k and where the last of them ends
+unfoldable pub betweenOf : List ℕ → ℕ → ℕ → List ℕ → Numbered
+betweenOf file i k x =
+    cond (leb i (rowWith x (rowsOf file)) && ltb (rowWith x (rowsOf file)) k)
+    (record { there = true; row = rowWith x (rowsOf file); place = placeAfter file (rowWith x (rowsOf file)) })
+    (record { there = false; row = k; place = placeAfter file k })

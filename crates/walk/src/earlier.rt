@@ -4,7 +4,7 @@ ghost use Prim.Native.Nat.{_≤_};
 ghost use lib.ListN.{length, take, replicate};
 ghost use Rattle.metafile.specs.Fields.{known};
 ghost use Rattle.metafile.specs.Reading.{rowsOf, serialsOf};
-ghost use Rattle.walk.specs.Walk.{headerOf, amongOf};
+ghost use Rattle.walk.specs.Walk.{headerOf, placeAfter, betweenOf};
 ghost use Rattle.walk.specs.Index.{Indexed, enteredFor};
 use crate::answers::Header;
 use crate::answers::Numbered;
@@ -24,16 +24,26 @@ pub fn empty_index() -> [u32; INDEX]
     [0; INDEX]
 }
 
-// The row with a serial number among the first i rows; where there is none, i and where the last of them ends.
-pub fn row_among(file: &[u8], h: Header, i: usize, serial: [u8; 38]) -> Numbered
+// The row with a serial number among those from row i, which begins at `place`, up to row k; where there is none, k and where
+// the last of them ends.
+pub fn row_between(
+    file: &[u8],
+    h: Header,
+    i: usize,
+    place: usize,
+    k: usize,
+    serial: [u8; 38],
+) -> Numbered
     requires { ⌜ h ≡ headerOf (now file) ⌝ }
     requires { ⌜ h .number ≡ 0 ⌝ }
-    requires { ⌜ i ≤ length (rowsOf (now file)) ⌝ }
-    ensures { λ r. ⌜ r ≡ amongOf (now (file .entry)) i serial ⌝ }
+    requires { ⌜ i ≤ k ⌝ }
+    requires { ⌜ k ≤ length (rowsOf (now file)) ⌝ }
+    requires { ⌜ place ≡ placeAfter (now file) i ⌝ }
+    ensures { λ r. ⌜ r ≡ betweenOf (now (file .entry)) i k serial ⌝ }
 {
-    let mut at = h.end;
-    let mut j: usize = 0;
-    while j < i {
+    let mut at = place;
+    let mut j = i;
+    while j < k {
         let l = known_chunk(file, h, at);
         if fields::same_serial(serial, serial_at(file, h, at, l)) {
             return Numbered {
@@ -47,7 +57,7 @@ pub fn row_among(file: &[u8], h: Header, i: usize, serial: [u8; 38]) -> Numbered
     }
     Numbered {
         there: false,
-        row: i,
+        row: k,
         place: at,
     }
 }
@@ -59,7 +69,7 @@ fn rescanned(file: &[u8], h: Header, i: usize, serial: [u8; 38]) -> bool
     requires { ⌜ i ≤ length (rowsOf (now file)) ⌝ }
     ensures { λ r. ⌜ r ≡ known serial (serialsOf (take i (rowsOf (now (file .entry))))) ⌝ }
 {
-    row_among(file, h, i, serial).there
+    row_between(file, h, 0, h.end, i, serial).there
 }
 
 // Whether a serial number is in one of the first i rows: by the index where all i are entered in it and the place of its

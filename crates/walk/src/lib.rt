@@ -34,5 +34,6 @@ pub use headers::header;
 pub use rows::chunk_at;
 pub use rows::serial_at;
 pub use surveys::survey;
+pub use walks::row_behind;
 pub use walks::row_of;
 pub use walks::row_with;

@@ -1,6 +1,6 @@
 //! The appends that are cut, one of each kind.
 
-use ads::{Description, Ends, Refusal};
+use ads::{Description, Ends, Header, Refusal};
 
 pub const BLOCK: usize = 512;
 
@@ -42,8 +42,10 @@ fn described(number: usize) -> Description {
 }
 
 fn begun(strategy: &[u8; 3], mark: &[u8]) -> Result<Vec<u8>, Refusal> {
-    let mut file = vec![0; 319 + 2 * mark.len()];
-    ads::begin(strategy, mark, &serial(1), b"20240229", b"RECORDER", b"20240301", b"DESK", &mut file)?;
+    let mut file = vec![0; ads::begin_room(mark.len())];
+    let serial = &serial(1);
+    let (recorded, recorder, written, writer) = (b"20240229", b"RECORDER", b"20240301", b"DESK");
+    ads::begin(&Header { strategy, mark, serial, recorded, recorder, written, writer }, &mut file)?;
     Ok(file)
 }
 

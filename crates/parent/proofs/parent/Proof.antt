@@ -1,5 +1,5 @@
 -- `parent::parent` meets its contract. Assumes nothing.
-use Prim.Native.Nat.{ℕ, _+_, _*_, _≤_, _<_}
+use Prim.Native.Nat.{ℕ, _+_, _*_, _/_, _≤_, _<_}
 use mathlib.Core.Path.{_≡_, ap, _∙_}
 use borrow.Author.Needs.{needs}
 use borrow.Author.Tests.{not-true, not-false}
@@ -8,7 +8,7 @@ use lib.ListN.{length}
 use Rattle.metafile.specs.Bytes.{part}
 use Rattle.walk.specs.Walk.{numberedOf}
 use Rattle.walk.proofs.Index.{indexed-none}
-use Rattle.walk.proofs.Named.{Named, named, named-at}
+use Rattle.walk.proofs.Named.{Named, named, named-at, earlier-place}
 use Rattle.parent.proofs.Answers.{refused-row, refused-14, dependency-inside, Met, met, missing, answered}
 use Rattle.parent.proofs.parent.Statement.{statement}
 use Rattle.parent.proofs.parent.Tie as tie
@@ -19,25 +19,35 @@ slice-aggregate-row-of c = search needs
 row-of-requires : tie.Need-row-of-requires
 row-of-requires c κs = indexed-none _ 0
 
+slice-aggregate-row-behind : tie.Need-slice-aggregate-row-behind
+slice-aggregate-row-behind c = search needs
+
+row-behind-requires : tie.Need-row-behind-requires
+row-behind-requires c κs = search needs
+
 returns : tie.Need-returns
 returns c =
     let r = c .before .before .before in
-    refused-row _ _ _ (r .row-of .result) (r .row-of .ensures .0) (c .if1 .taken)
+    refused-row _ _ _ (r .row-behind .result) (r .row-behind .ensures .0) (c .if1 .taken)
 
 -- the row is there
-abbrev at-row : tie.Else1 → tie.After-row-of
+abbrev at-row : tie.Else1 → tie.After-row-behind
 at-row c = c .before .before .before
 
 abbrev start : tie.Else1 → tie.Start
-start c = at-row c .before .before .before
+start c = at-row c .before .before .before .before .before .before
 
-own : (c : tie.Else1) → Named (start c .args .file .now) (start c .args .row) (at-row c .row-of .result)
-own c = named _ _ (at-row c .row-of .result) (at-row c .row-of .ensures .0) (c .if1 .left)
+-- the row halfway to it
+abbrev halfway : tie.Else1 → tie.After-row-of
+halfway c = at-row c .before .before .before
+
+own : (c : tie.Else1) → Named (start c .args .file .now) (start c .args .row) (at-row c .row-behind .result)
+own c = named _ _ (at-row c .row-behind .result) (at-row c .row-behind .ensures .0) (c .if1 .left)
 
 returns-2 : tie.Need-returns-2
 returns-2 c =
     let e = c .before .before in
-    refused-14 _ _ (start e .args .dependency) (at-row e .row-of .result) (own e) (omega (arith, c .if2 .taken))
+    refused-14 _ _ (start e .args .dependency) (at-row e .row-behind .result) (own e) (omega (arith, c .if2 .taken))
 
 -- the dependency lies inside the file
 abbrev at-own : tie.Else2 → tie.Else1
@@ -47,9 +57,9 @@ abbrev entry : tie.Else2 → tie.Start
 entry c = start (at-own c)
 
 abbrev place : tie.Else2 → ℕ
-place c = at-row (at-own c) .row-of .result .at + 568 + 344 * entry c .args .dependency
+place c = at-row (at-own c) .row-behind .result .at + 568 + 344 * entry c .args .dependency
 
-has : (c : tie.Else2) → entry c .args .dependency < at-row (at-own c) .row-of .result .layout .dependencies
+has : (c : tie.Else2) → entry c .args .dependency < at-row (at-own c) .row-behind .result .layout .dependencies
 has c = omega (arith, c .if2 .left)
 
 inside : (c : tie.Else2) → place c + 344 ≤ length (entry c .args .file .now)
@@ -75,9 +85,12 @@ slice-aggregate-row-with c = search needs
 
 row-with-requires : tie.Need-row-with-requires
 row-with-requires c κs =
-    let e = c .before .before .before in
-    let w = own (at-own e) in
-    (named-at w (at-row (at-own e) .row-of .ensures .1), w .goes)
+    let e = at-own (c .before .before .before) in
+    let w = own e in
+    let row = start e .args .row in
+    let less : row / 2 ≤ row = omega arith in
+    let place = earlier-place (start e .args .file .now) (row / 2) row less (halfway e .row-of .result) (halfway e .row-of .ensures .0) w in
+    (named-at w (at-row e .row-behind .ensures .1), (w .goes, (omega (arith, w .row-is, less), place)))
 
 -- the row with the dependency's serial number
 abbrev at-other : tie.After-row-with → tie.Else2
@@ -123,6 +136,8 @@ parent-spec =
     (tie.spec
     slice-aggregate-row-of
     row-of-requires
+    slice-aggregate-row-behind
+    row-behind-requires
     returns
     returns-2
     add-at

@@ -1,93 +1,30 @@
 -- `walk::walks::row_of` meets its contract. Assumes nothing.
-use Prim.Native.Nat.{_-_, _≤_}
-use mathlib.Core.Path.{sym, _∙_}
-use lib.ListN.{length}
-use Rattle.metafile.specs.Reading.{rowsOf}
-use Rattle.walk.specs.Cursor.{At}
-use Rattle.walk.proofs.Index.{indexed-more, index-long}
-use Rattle.walk.proofs.Cursors.{There, there, stops}
-use Rattle.walk.proofs.Named.{named-11, named-13, named-row}
 use borrow.Author.Needs.{needs}
 use native.Mathlib.Omega.{arith}
+use Rattle.walk.proofs.Index.{indexed-more}
+use Rattle.walk.proofs.Named.{named-11}
 use Rattle.walk.proofs.walks.row_of.Statement.{statement}
 use Rattle.walk.proofs.walks.row_of.Tie as tie
 
-abbrev Inv-loop : tie.InvT-loop
-Inv-loop file k index₀ c₀ index c = At file c index × (c .row ≤ k)
-
-abbrev μ-loop : tie.MeasureT-loop
-μ-loop file k index₀ c₀ index c = length (rowsOf file) - c .row
-
-abbrev tested : tie.At-loop Inv-loop μ-loop → tie.Else1 Inv-loop μ-loop
-tested c = c .before .before .before .before .before
-
-abbrev start : tie.At-loop Inv-loop μ-loop → tie.Start Inv-loop μ-loop
-start c = tested c .before .before .before
-
--- the row of the cursor
-here : (c : tie.In-loop Inv-loop μ-loop) → There (start (c .before) .args .file .now) (c .before .loop .c)
-here c = there (c .before .loop .inv .0) (c .loop-test .taken)
-
-none-requires : tie.Need-none-requires Inv-loop μ-loop
+none-requires : tie.Need-none-requires
 none-requires c κs = search needs
 
-returns : tie.Need-returns Inv-loop μ-loop
+returns : tie.Need-returns
 returns c = (named-11 _ _ (c .before .if1 .taken) (c .none .ensures), indexed-more (c .before .before .before .before .pre) (omega arith))
 
-first-requires : tie.Need-first-requires Inv-loop μ-loop
+first-requires : tie.Need-first-requires
 first-requires c κs = search needs
 
-loop-holds : tie.Need-loop-holds Inv-loop μ-loop
-loop-holds c = let f = c .before .before in (f .first .ensures .0, omega (arith, f .first .ensures .1))
+reached-requires : tie.Need-reached-requires
+reached-requires c κs = search needs
 
-same-length : tie.Need-same-length Inv-loop μ-loop
-same-length c = let l = c .before .before .before in index-long (l .loop .inv .0 .indexed) ∙ sym (index-long (start l .pre))
+same-length : tie.Need-same-length
+same-length c = search needs
 
-returns-2 : tie.Need-returns-2 Inv-loop μ-loop
-returns-2 c =
-    let i = c .before .before in
-    let l = i .before in
-    (named-row _ _ (tested l .if1 .left) (omega (arith, here i .turn .row, c .if2 .taken)) (l .loop .inv .0 .is) (c .if2 .taken), indexed-more (l .loop .inv .0 .indexed) (omega (arith, c .if2 .taken)))
-
-next-requires : tie.Need-next-requires Inv-loop μ-loop
-next-requires c κs = let i = c .before .before .before in (i .before .loop .inv .0, i .loop-test .taken)
-
-loop-less : tie.Need-loop-less Inv-loop μ-loop
-loop-less c = let n = c .before .before in omega (arith, here (n .before .before .before .before) .turn .row, n .next .ensures .1)
-
-loop-again : tie.Need-loop-again Inv-loop μ-loop
-loop-again c =
-    let n = c .before .before in
-    let e = n .before .before in
-    (n .next .ensures .0, omega (arith, n .next .ensures .1, e .before .before .before .loop .inv .1, e .if2 .left))
-
-none-requires-2 : tie.Need-none-requires-2 Inv-loop μ-loop
-none-requires-2 c κs = search needs
-
-same-length-2 : tie.Need-same-length-2 Inv-loop μ-loop
-same-length-2 c = let l = c .before .before in index-long (l .loop .inv .0 .indexed) ∙ sym (index-long (start l .pre))
-
-returns-3 : tie.Need-returns-3 Inv-loop μ-loop
-returns-3 c =
-    let l = c .before .before in
-    let s = stops (l .loop .inv .0) (c .before .loop-test .left) in
-    (named-13 _ _ (tested l .if1 .left) (omega (arith, s .count, l .loop .inv .1)) (c .none2 .ensures), indexed-more (l .loop .inv .0 .indexed) (omega (arith, l .loop .inv .1)))
+returns-2 : tie.Need-returns-2
+returns-2 c = search needs
 
 pub row-of-spec : {M : Type 1} → statement M
 row-of-spec =
     tie.close
-    (tie.spec
-    Inv-loop
-    μ-loop
-    none-requires
-    returns
-    first-requires
-    loop-holds
-    same-length
-    returns-2
-    next-requires
-    loop-less
-    loop-again
-    none-requires-2
-    same-length-2
-    returns-3)
+    (tie.spec none-requires returns first-requires reached-requires same-length returns-2)

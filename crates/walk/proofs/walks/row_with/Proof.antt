@@ -7,7 +7,8 @@ use Rattle.metafile.specs.Fields.{known}
 use Rattle.metafile.specs.Reading.{rowsOf, serialsOf}
 use Rattle.walk.specs.Cursor.{At}
 use Rattle.walk.proofs.Index.{index-long}
-use Rattle.walk.proofs.Loops.{among-known, among-there, seen-passed, numbered-here, numbered-none}
+use Rattle.walk.proofs.Serials.{known-with}
+use Rattle.walk.proofs.Loops.{seen-passed, numbered-here, numbered-none}
 use Rattle.walk.proofs.Cursors.{There, there, stops}
 use borrow.Author.Needs.{needs}
 use native.Mathlib.Omega.{arith}
@@ -15,14 +16,14 @@ use Rattle.walk.proofs.walks.row_with.Statement.{statement}
 use Rattle.walk.proofs.walks.row_with.Tie as tie
 
 abbrev Inv-loop : tie.InvT-loop
-Inv-loop file serial index₀ h c₀ index c = At file c index × (known serial (serialsOf (take (c .row) (rowsOf file))) ≡ false)
+Inv-loop file m place serial index₀ h c₀ index c = At file c index × (known serial (serialsOf (take (c .row) (rowsOf file))) ≡ false)
 
 abbrev μ-loop : tie.MeasureT-loop
-μ-loop file serial index₀ h c₀ index c = length (rowsOf file) - c .row
+μ-loop file m place serial index₀ h c₀ index c = length (rowsOf file) - c .row
 
 -- the row at which it is asked
 own : (k : tie.Start Inv-loop μ-loop) → There (k .args .file .now) (k .args .own)
-own k = there (k .pre .0) (k .pre .1)
+own k = there (k .pre .0) (k .pre .1 .0)
 
 abbrev start : tie.At-loop Inv-loop μ-loop → tie.Start Inv-loop μ-loop
 start c = c .before .before .before .before .before .before
@@ -31,20 +32,20 @@ start c = c .before .before .before .before .before .before
 here : (c : tie.In-loop Inv-loop μ-loop) → There (start (c .before) .args .file .now) (c .before .loop .c)
 here c = there (c .before .loop .inv .0) (c .loop-test .taken)
 
-row-among-requires : tie.Need-row-among-requires Inv-loop μ-loop
-row-among-requires c κs = let w = own (c .before .before .before) in (w .behind .header-is, (w .behind .whole, w .behind .few))
+row-before-requires : tie.Need-row-before-requires Inv-loop μ-loop
+row-before-requires c κs =
+    let k = c .before .before .before in
+    let w = own k in
+    (w .behind .header-is, (w .behind .whole, (k .pre .1 .1 .0, (w .behind .few, k .pre .1 .1 .1))))
 
 returns : tie.Need-returns Inv-loop μ-loop
-returns c =
-    let r = c .before in
-    let k = r .before .before .before .before in
-    among-there (k .args .serial) (k .args .file .now) _ (own k .behind .few) (r .row-among .result) (r .row-among .ensures) (own k .begun) (c .if1 .taken)
+returns c = c .before .row-before .ensures .1 (c .if1 .taken)
 
 loop-holds : tie.Need-loop-holds Inv-loop μ-loop
 loop-holds c =
     let r = c .before in
     let k = r .before .before .before .before in
-    (k .pre .0, sym (among-known (k .args .serial) (k .args .file .now) _ (own k .behind .few) (r .row-among .result) (r .row-among .ensures)) ∙ c .if1 .left)
+    (k .pre .0, sym (r .row-before .ensures .0 ∙ known-with (k .args .serial) (rowsOf (k .args .file .now)) _ (own k .behind .few)) ∙ c .if1 .left)
 
 serial-at-requires : tie.Need-serial-at-requires Inv-loop μ-loop
 serial-at-requires c κs =
@@ -97,7 +98,7 @@ row-with-spec =
     (tie.spec
     Inv-loop
     μ-loop
-    row-among-requires
+    row-before-requires
     returns
     loop-holds
     serial-at-requires

@@ -1,0 +1,4 @@
+"""`python3 -m ads_metafile` is the command `ads`."""
+from .command import entry
+
+entry()

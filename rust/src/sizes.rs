@@ -1,0 +1,54 @@
+//! The sizes of `ads.h` that callers need.
+
+/// Bytes of the longest file, and of the longest buffer, that a call takes: 2^30.
+pub const MOST_BYTES: usize = 1 << 30;
+
+/// Bytes of the longest mark.
+pub const MOST_MARK: usize = 999;
+
+/// Parents that one [`append`](crate::append) takes.
+pub const MOST_PARENTS: usize = 16;
+
+/// Stack that a call may take: 1 MiB.
+pub const STACK_BYTES: usize = 1 << 20;
+
+/// Bytes that are enough for any [`listing`](crate::listing).
+pub const LISTING_ROOM: usize = 10_240;
+
+/// Rows that are enough for any file of this length: a chunk has at least 856 bytes.
+///
+/// ```
+/// let file = std::fs::read("../samples/two-chunks.ads")?;
+/// let mut rows = vec![ads::Row::default(); ads::most_rows(file.len())];
+/// assert_eq!(ads::read(&file, &mut rows).count, 2);
+/// # Ok::<(), std::io::Error>(())
+/// ```
+pub const fn most_rows(length: usize) -> usize {
+    length / 856 + 1
+}
+
+/// Bytes that [`begin`](crate::begin) writes.
+///
+/// ```
+/// assert_eq!(ads::begin_room(90), 499);
+/// ```
+pub const fn begin_room(mark_length: usize) -> usize {
+    319 + 2 * mark_length
+}
+
+/// Bytes of a file of `length` bytes and the chunk that [`append`](crate::append) adds to it. [`MOST_MARK`] for the
+/// mark's length is enough for any file.
+///
+/// ```
+/// let length = ads::begin_room(0);
+/// assert_eq!(ads::append_room(length, 0, 0, 0, 3), 1178);
+/// ```
+pub const fn append_room(
+    length: usize,
+    mark_length: usize,
+    parent_count: usize,
+    specific_length: usize,
+    contents_length: usize,
+) -> usize {
+    length + 856 + 344 * parent_count + specific_length + contents_length + 2 * mark_length
+}

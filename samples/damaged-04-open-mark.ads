@@ -1,0 +1,25 @@
+Format_ID=Ancillary Data Standard 1.00
+Separator_Strategy=NUL090
+MMMMMMMMMMMMMMMMMMMMMMMMMMMMMMMMMMMMMMMMMMMMMMMMMMMMMMMMMMMMMMMMMMMMMMMMMMMMMMMMMMMMMMMMMMChunk_Serial_Number=#20240229123456789SURVEYDESK0100007002
+Chunk_Recording_Date=20240229
+Chunk_Recording_Agent=RECORDER                        
+Chunk_Writing_Date=20240301
+Chunk_Writing_Agent=DESK                            
+Chunk_Integrity_Checksum=124
+MMMMMMMMMMMMMMMMMMMMMMMMMMMMMMMMMMMMMMMMMMMMMMMMMMMMMMMMMMMMMMMMMMMMMMMMMMMMMMMMMMMMMMMMMMChunk_Header_Length=000000000536
+SubFormat_ID=ADS\DATA\TEST                                                                                                                                                                                                                                                   
+Generic_Type=TXT
+Chunk_Time_Synch_Type=GEN
+Chunk_Time_Standard=UTC                                      
+Chunk_Time_Offset=+0000      8.035
+Chunk_Event_Synch=NUL                                      
+Chunk_Dependency_Length=000000000029
+Chunk_Dependency_Count=0000
+Chunk_Content_Length=000000000000
+12345MMMMMMMMMMMMMMMMMMMMMMMMMMMMMMMMMMMMMMMMMMMMMMMMMMMMMMMMMMMMMMMMMMMMMMMMMMMMMMMMMMMMMMMMMNChunk_Serial_Number=#20240229123456789SURVEYDESK0100042001
+Chunk_Recording_Date=20240229
+Chunk_Recording_Agent=RECORDER                        
+Chunk_Writing_Date=20240301
+Chunk_Writing_Agent=DESK                            
+Chunk_Integrity_Checksum=098
+MMMMMMMMMMMMMMMMMMMMMMMMMMMMMMMMMMMMMMMMMMMMMMMMMMMMMMMMMMMMMMMMMMMMMMMMMMMMMMMMMMMMMMMMMN

@@ -1,0 +1,89 @@
+"""README.md: its lines for the command, Python and C do what they say, in a checkout where the libraries are built."""
+from __future__ import annotations
+
+import os
+import shlex
+import shutil
+import subprocess
+import sys
+import tempfile
+import unittest
+from pathlib import Path
+
+from support import LIBRARY, REPOSITORY
+
+README = (REPOSITORY / "README.md").read_text(encoding="utf-8")
+MOST_LINES = 120
+AROUND = """#include <stdio.h>
+{include}
+static uint8_t file[4096];
+
+int main(int count, char **names)
+{{
+    FILE *opened = count == 2 ? fopen(names[1], "rb") : NULL;
+    if (opened == NULL)
+        return 1;
+    size_t length = fread(file, 1, sizeof file, opened);
+    fclose(opened);
+{lines}
+    return 0;
+}}
+"""
+
+
+def code(heading: str) -> list[str]:
+    """The indented lines of a section, without their indent."""
+    section = README.split(f"\n## {heading}\n")[1].split("\n## ")[0]
+    return [line[4:] for line in section.splitlines() if line.startswith("    ")]
+
+
+class Lines(unittest.TestCase):
+    def setUp(self) -> None:
+        folder = tempfile.TemporaryDirectory(prefix="readme ")
+        self.addCleanup(folder.cleanup)
+        self.folder = Path(folder.name)
+
+    def run_in(self, folder: Path, *words: str, **more: str) -> str:
+        ended = subprocess.run(words, cwd=folder, env=os.environ | more, capture_output=True, text=True, timeout=60)
+        self.assertEqual((ended.returncode, ended.stderr), (0, ""), words)
+        return ended.stdout
+
+    def test_it_is_short(self) -> None:
+        self.assertLessEqual(len(README.splitlines()), MOST_LINES)
+
+    def test_the_command(self) -> None:
+        (self.folder / "bin").mkdir()
+        (self.folder / "bin/ads").symlink_to(REPOSITORY / "python/bin/ads")
+        shutil.copy(REPOSITORY / "samples/survey.ads", self.folder)
+        path = f"{self.folder}/bin:{os.environ['PATH']}"
+        said = [self.run_in(self.folder, "sh", "-c", line, PATH=path) for line in code("The command")]
+        self.assertEqual(len(said), 9)
+        self.assertIn("4 chunks; clean: all 7,214 bytes read", said[0])
+        self.assertEqual(said[1], "survey.ads: clean, 4 chunks, all sums good\n")
+        self.assertEqual((self.folder / "depths.txt").read_text(), "12.5\n12.7\n")
+        self.assertRegex(said[7], r"^row 0 appended: 319 to 1,223, serial #")
+        self.assertEqual(said[8], "new.ads: clean, 1 chunk; nothing is to be cut\n")
+
+    def test_python(self) -> None:
+        program = "\n".join(code("Python"))
+        said = self.run_in(REPOSITORY, sys.executable, "-B", "-c", program, PYTHONPATH=str(REPOSITORY / "python"))
+        self.assertEqual(said.splitlines()[0], "True 7214 0 4")
+        self.assertEqual(said.splitlines()[-1], repr(b"12.5\n12.7\n"))
+
+    def test_c(self) -> None:
+        lines = code("C")
+        include = lines.pop(0)
+        built = next(line for line in lines if line.startswith("gcc "))
+        body = "\n".join("    " + line for line in lines[:lines.index(built)])
+        (self.folder / "t.c").write_text(AROUND.format(include=include, lines=body))
+        self.run_in(self.folder, "gcc", "-Wall", "-Wextra", "-Werror", f"-I{REPOSITORY}/include", "t.c", str(LIBRARY),
+                    "-o", "t")
+        said = self.run_in(self.folder, "./t", str(REPOSITORY / "samples/damaged-04-cut.ads"),
+                           LD_LIBRARY_PATH=str(LIBRARY.parent))
+        self.assertEqual(said, "319 3 good\nstops at 1178 with 4 (the bytes end too soon)\n")
+        example = built.replace("target/example", shlex.quote(str(self.folder / "example")))
+        self.assertIn("1 rows, clean", self.run_in(REPOSITORY, "sh", "-c", example))
+
+
+if __name__ == "__main__":
+    unittest.main()
