@@ -23,8 +23,8 @@ extern "C" {
 #endif
 
 /* The version of this header and of its library; the number is major * 1000000 + minor * 1000 + patch. */
-#define ADS_VERSION "0.2.0"
-#define ADS_VERSION_NUMBER 2000
+#define ADS_VERSION "0.3.0"
+#define ADS_VERSION_NUMBER 3000
 
 /* ---- sizes */
 
@@ -54,7 +54,8 @@ enum {
     ADS_TITLE = 1,          /* read: the first 65 bytes don't match */
     ADS_TAPE = 2,           /* read, begin: NUL with a mark of no bytes, the tape form */
     ADS_MARK_MINI = 3,      /* read, begin: the mark begins "MiniChunk=" */
-    ADS_CUT = 4,            /* read: the bytes end too soon; the mark of an open chunk isn't found */
+    ADS_CUT = 4,            /* read: the bytes end too soon, but for a file of no bytes, which reads with 0; the mark of
+                               an open chunk isn't found */
     ADS_DIFFERS = 5,        /* read: a label, LF, mark or listed word differs */
     ADS_FORM = 6,           /* read, begin, append: a field is out of form or range; begin, append: also a wrong listed
                                word, an over-long text or a mark over 999 bytes */
@@ -63,7 +64,7 @@ enum {
     ADS_REPEATED = 9,       /* read: a whole chunk's serial number is already in a row; append: the one given is */
     ADS_ROWS_FULL = 10,     /* read: another whole chunk with a new serial number, and no row left */
     ADS_LIMIT = 11,         /* every call: a lent byte buffer over 2^30, or append's length over the buffer's */
-    ADS_NOT_CLEAN = 12,     /* append: the file doesn't read to its end with number 0 */
+    ADS_NOT_CLEAN = 12,     /* append: the file has no bytes, or doesn't read to its end with number 0 */
     ADS_NO_ROW = 13,        /* parent, contents, gather: no such row; append: no such parent, repeated, or over 16 */
     ADS_NO_DEPENDENCY = 14, /* parent: no such dependency; gather: not a MultiChunk, or the ID is undeclared */
     ADS_MARK_ZERO = 15,     /* begin, append: the mark has a zero byte */
@@ -119,7 +120,7 @@ typedef struct ads_reading {
     size_t count;   /*  0: rows written to the table */
     size_t stop;    /*  8: end of the last chunk in a row, else of the header; 0 if that isn't whole */
     bool good;      /* 16: header sum good; never where the header isn't whole */
-    uint8_t number; /* 17: 0 to 11; ads_is_clean says whether the file is clean */
+    uint8_t number; /* 17: 0 to 11; 0 alone doesn't say that the file is clean: ads_is_clean does */
 } ads_reading;      /* 24 bytes */
 
 typedef struct ads_written {
@@ -157,11 +158,11 @@ ads_written ads_begin(const uint8_t strategy[3], const uint8_t *mark, size_t mar
 
 /* Reads the file into a table of `room` rows; ADS_MOST_ROWS(length) are enough. Rows past the count are not written. It
    answers its values whatever the number is: the rows before a fault, or before the table was full, hold. Given 11:
-   count 0, stop 0, not good. */
+   count 0, stop 0, not good. A file of no bytes: number 0, count 0, stop 0, not good; it isn't clean. */
 ads_reading ads_read(const uint8_t *file, size_t length, ads_row *rows, size_t room);
 
-/* Whether the file is clean, by its reading and its length: number 0 and stop at the file's end. Only to a clean file
-   can ads_append append. */
+/* Whether the file is clean, by its reading and its length: it has a byte, number 0, and stop at its end. Only to a
+   clean file can ads_append append; only ads_begin starts a file. */
 bool ads_is_clean(ads_reading reading, size_t length);
 
 /* The calls below judge the file by a reading of their own with rows enough: rows before a fault count. */
@@ -178,9 +179,9 @@ ads_part ads_contents(const uint8_t *file, size_t length, size_t row);
 ads_written ads_gather(const uint8_t *file, size_t length, size_t row, const uint8_t *id, size_t id_length,
                        uint8_t *buffer, size_t buffer_length);
 
-/* Writes the listing of the file's table as text: header sum, count, a line for each row, stop and number. An input
-   over 65,536 bytes is no refusal: its text is "end 0 11" and LF. ADS_LISTING_ROOM bytes are enough for any text.
-   Tests 11 (of the buffer alone), 18. */
+/* Writes the listing of the file's table as text: header sum ("header none" of a file of no bytes), count, a line for
+   each row, stop and number. An input over 65,536 bytes is no refusal: its text is "end 0 11" and LF.
+   ADS_LISTING_ROOM bytes are enough for any text. Tests 11 (of the buffer alone), 18. */
 ads_written ads_listing(const uint8_t *input, size_t length, uint8_t *buffer, size_t buffer_length);
 
 /* ---- append */

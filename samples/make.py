@@ -63,7 +63,7 @@ def survey() -> bytes:
 
 
 def good() -> dict[str, bytes]:
-    """Clean files; of two of them a sum is bad."""
+    """Clean files, of two of them a sum is bad; and a file of no bytes, which reads with 0 and isn't clean."""
     return {
         "one-chunk": one_chunk(),
         "two-chunks": two_chunks(),
@@ -73,6 +73,7 @@ def good() -> dict[str, bytes]:
         "begun": header("LLC", b""),
         "bad-chunk-sum": header("LLC", b"") + plain(b"", FIRST, b"abc", off=1),
         "bad-header-sum": header("LLC", b"", off=1) + plain(b"", FIRST, b"abc"),
+        "no-bytes": b"",
     }
 
 
@@ -83,7 +84,6 @@ def damaged_header() -> dict[str, bytes]:
         "damaged-01-text-mode": begun.replace(b"\n", b"\r\n"),
         "damaged-02-tape": header("NUL", b""),
         "damaged-03-mark-minichunk": header("LLC", b"MiniChunk=MARK"),
-        "damaged-04-no-bytes": b"",
         "damaged-04-header-cut": begun[:200],
         "damaged-06-header-checksum": changed(begun, b"Checksum=077", b"Checksum=256"),
     }

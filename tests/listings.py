@@ -23,8 +23,10 @@ SUMS = header("LLC", b"", off=1) + plain(b"", A, b"abc", off=1)
 CASES: dict[str, tuple[bytes, str]] = {
     # the paper's example
     "sample": (SAMPLE, ONE + "end 1178 0\n"),
-    # "No bytes: 4, stop 0."
-    "empty": (b"", "header bad\nchunks 0\nend 0 4\n"),
+    # "Its slip is "header none", "chunks 0", "end 0 0", each on its line."
+    "no-bytes": (b"", "header none\nchunks 0\nend 0 0\n"),
+    # one byte is a header cut short
+    "one-byte": (b"F", "header bad\nchunks 0\nend 0 4\n"),
     # "A longer input prints only "end 0 11"."
     "long": (b"0" * 65537, "end 0 11\n"),
     # a mark of 90 bytes: the header has 499 bytes, the open chunk 568 + 34 + 5 of data + 90 + 254 + 90

@@ -45,7 +45,8 @@ class File:
     """A metafile in memory and its table of rows; made by `open` or `read`, closed by `with` or `close`.
 
     `len(file)`, `file[3]`, `file[-1]`, `file[2:5]` and iteration give its rows. `name` is the path or None, `length`
-    the number of bytes. `clean`, `stop`, `number` and `header_good` are what the library answered.
+    the number of bytes. `clean`, `stop`, `number` and `header_good` are what the library answered. A file of no bytes
+    has number 0 and stop 0 and isn't clean: ask `clean`, not the number.
     """
 
     def __init__(self, source: BytesLike, *, length: int | None = None, name: str | None = None,
@@ -223,5 +224,6 @@ class File:
                 raise
 
     def __repr__(self) -> str:
-        state = "closed" if self.closed else "clean" if self.clean else f"not clean, {self.number} at byte {self.stop}"
+        stops = f"{self.number} at byte {self.stop}" if self.length else "no bytes"
+        state = "closed" if self.closed else "clean" if self.clean else f"not clean, {stops}"
         return f"<ads_metafile.File {self.name!r}: {self._count} rows, {state}>"

@@ -75,19 +75,22 @@ pub struct Reading {
     pub stop: usize,
     /// Header sum good; never where the header isn't whole.
     pub good: bool,
-    /// What stands at `stop`, where the reading didn't reach the file's end.
+    /// What stands at `stop`, where the reading didn't reach the file's end. None doesn't say that the file is clean:
+    /// [`is_clean`](Reading::is_clean) does.
     pub refusal: Option<Refusal>,
 }
 
 impl Reading {
-    /// Whether the file is clean: no refusal, and the reading stopped at its end. Only to a clean file can
-    /// [`append`](crate::append) append.
+    /// Whether the file is clean: it has a byte, no refusal, and the reading stopped at its end. Only to a clean file can
+    /// [`append`](crate::append) append. A file of no bytes has no refusal and isn't clean.
     ///
     /// ```
     /// let file = std::fs::read("../samples/two-chunks.ads")?;
     /// assert!(ads::read_all(&file).reading.is_clean(&file));
     /// let cut = &file[..file.len() - 1];
     /// assert!(!ads::read_all(cut).reading.is_clean(cut));
+    /// let none = ads::read_all(b"").reading;
+    /// assert!(none.refusal.is_none() && !none.is_clean(b""));
     /// # Ok::<(), std::io::Error>(())
     /// ```
     pub fn is_clean(&self, file: &[u8]) -> bool {

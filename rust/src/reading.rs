@@ -112,7 +112,7 @@ pub fn gather(file: &[u8], row: usize, id: &[u8], buffer: &mut [u8]) -> Result<u
 }
 
 /// Writes the listing of the file's table as text into the buffer and answers its length. The text of an input over
-/// 65,536 bytes is `end 0 11` and a line feed.
+/// 65,536 bytes is `end 0 11` and a line feed; that of no bytes begins with `header none`.
 ///
 /// ```
 /// let file = std::fs::read("../samples/one-chunk.ads")?;

@@ -91,7 +91,8 @@ fn all_rows() {
 
     let none = ads::read_all(b"");
     assert_eq!((none.rows.len(), none.rows.capacity(), none.reading.stop), (0, 0, 0));
-    assert_eq!(none.reading.refusal, Some(Refusal::Cut));
+    assert!(none.reading.refusal.is_none() && !none.reading.good && !none.reading.is_clean(b""));
+    assert_eq!(ads::read_all(b"F").reading.refusal, Some(Refusal::Cut));
 
     // the smallest chunks, as many as a file of this length can have
     let mut file = buffer[..319].to_vec();

@@ -101,6 +101,13 @@ class Refused(AppendTest):
         self.said(12, "not clean: stops at byte 1,178 with 4 (the bytes end too soon); `ads cut-back a.ads` shows what "
                   "stands behind the stop")
 
+    def test_no_bytes(self) -> None:
+        self.file.write_bytes(b"")
+        self.said(12, "not clean: no bytes; only `ads begin` starts a file, under a name that is free")
+        self.file.write_bytes(b"F")
+        self.said(12, "not clean: stops at byte 0 with 4 (the bytes end too soon); `ads cut-back a.ads` shows what "
+                  "stands behind the stop")
+
     def test_a_known_serial_number(self) -> None:
         self.said(9, f"row 1 has {serial('00043')}; give another one, or --serial auto", number=serial("00043"))
 

@@ -28,13 +28,15 @@ class Begin(CommandTest):
 
     def test_a_name_that_is_taken(self) -> None:
         self.path("a.ads", b"old")
+        self.path("none.ads", b"")
         self.path("to nowhere").symlink_to("nowhere")
         os.mkdir(self.path("folder"))
         names = self.names()
-        for name in ("a.ads", "to nowhere", "folder"):
+        for name in ("a.ads", "none.ads", "to nowhere", "folder"):
             self.assertEqual(self.expect(3, "begin", name, *header_options()).errors,
                              f"ads: {name}: exists already, and is never overwritten; give another name\n")
         self.assertEqual((self.names(), self.path("a.ads").read_bytes()), (names, b"old"))
+        self.assertEqual(self.path("none.ads").read_bytes(), b"")
 
     def test_no_folder(self) -> None:
         self.assertEqual(self.expect(3, "begin", "x/a.ads", *header_options()).errors,

@@ -41,6 +41,14 @@ class Lines(CommandTest):
             "h.ads: clean, 12 chunks, bad header sum",
             ".: is a directory"])
 
+    def test_no_bytes(self) -> None:
+        self.path("none.ads", b"")
+        self.assertEqual(self.expect(1, "check", "a.ads", "none.ads").lines,
+                         ["a.ads: clean, 12 chunks, all sums good", "none.ads: not clean: no bytes"])
+        found = json.loads(self.expect(1, "check", "--json", "none.ads").output)
+        self.assertEqual([found[key] for key in ("bytes", "number", "words", "clean", "good", "bad_rows", "error")],
+                         [0, 0, None, False, False, [], None])
+
     def test_status(self) -> None:
         for files, status in ((["a.ads"], 0), (["a.ads", "b.ads"], 1), (["c.ads", "a.ads"], 1), (["h.ads"], 1),
                               (["d.ads", "a.ads"], 3), (["b.ads", "d.ads", "c.ads"], 3)):

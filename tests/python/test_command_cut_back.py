@@ -94,11 +94,16 @@ class Cut(CutBackTest):
 
 class Refused(CutBackTest):
     def test_no_whole_header(self) -> None:
-        for data, number in ((OLD[:200], 4), (b"", 4), (b"x" * 400, 1)):
+        for data, number in ((OLD[:200], 4), (b"F", 4), (b"x" * 400, 1)):
             self.file.write_bytes(data)
             stops = f"stops at byte 0 with {number} ({ads_metafile.WORDS[number]})"
             for options in ((), ("--yes",), ("--yes", "--force", "--no-copy")):
                 self.refused(f"not clean: {stops}; without a whole header nothing is cut back", *options)
+
+    def test_no_bytes(self) -> None:
+        self.file.write_bytes(b"")
+        for options in ((), ("--yes",), ("--yes", "--force", "--no-copy")):
+            self.refused("not clean: no bytes; there is nothing to cut", *options)
 
     def test_whole_chunks_may_be_behind(self) -> None:
         may_be = ("whole chunks may be among them, which is not what a cut append leaves. Nothing was cut; --force "

@@ -133,11 +133,24 @@ class NotClean(CommandTest):
         self.assertEqual(found["words"], "a label, line feed, mark or listed word differs")
 
     def test_no_header(self) -> None:
-        self.path("a.ads", b"")
+        self.path("a.ads", b"F")
         self.assertEqual(self.expect(1, "list", "a.ads").lines, [
-            "a.ads: no whole header", "0 chunks; not clean: stops at byte 0 with 4 (the bytes end too soon)"])
+            "a.ads: no whole header", "0 chunks; not clean: stops at byte 0 with 4 (the bytes end too soon); 1 byte "
+            "behind it is not in the table"])
         found = json.loads(self.expect(1, "list", "--format", "json", "a.ads").output)
         self.assertEqual([found[name] for name in ("strategy", "mark", "header_good")], [None, None, False])
+
+    def test_no_bytes(self) -> None:
+        """An empty table, in every format; it isn't clean."""
+        self.path("a.ads", b"")
+        self.assertEqual(self.expect(1, "list", "a.ads").lines, ["a.ads: no header", "0 chunks; not clean: no bytes"])
+        for form in ("tsv", "csv"):
+            self.assertEqual(len(self.expect(1, "list", "--format", form, "a.ads").lines), 1, form)
+        found = json.loads(self.expect(1, "list", "--format", "json", "a.ads").output)
+        self.assertEqual([found[name] for name in ("bytes", "number", "words", "stop", "count", "rows")],
+                         [0, 0, None, 0, 0, []])
+        self.assertEqual([found[name] for name in ("strategy", "mark", "header_good", "clean")],
+                         [None, None, False, False])
 
     def test_others_are_listed(self) -> None:
         self.path("b.ads", chunks(b"abc"))

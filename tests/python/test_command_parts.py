@@ -45,7 +45,11 @@ class Bytes(CommandTest):
         self.assertEqual((ended.output, ended.errors), ("", said))
         self.assertFalse(self.path("out").exists())
         self.path("b.ads", header("LLC", b""))
-        self.assertIn("(no such row): the file has no rows\n", self.expect(1, "contents", "b.ads", "0").errors)
+        self.path("none.ads", b"")
+        for name in ("b.ads", "none.ads"):
+            for asked in (("contents", name, "0"), ("gather", name, "0", "P2/91"), ("parents", name, "0")):
+                self.assertEqual(self.expect(1, *asked).errors,
+                                 f"ads: {name}: refused with 13 (no such row): the file has no rows\n")
 
     def test_a_row_is_a_number(self) -> None:
         for row in ("-1", "x", "1.0", "٣", ""):

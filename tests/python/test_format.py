@@ -171,7 +171,7 @@ class Tables(unittest.TestCase):
 
     def test_the_tables_hold_of_every_chunk(self) -> None:
         chunks = 0
-        for path in (ROOT / "samples").glob("[!d]*.ads"):
+        for path in set((ROOT / "samples").glob("[!d]*.ads")) - {ROOT / "samples" / "no-bytes.ads"}:
             walk = Walk(path.read_bytes())
             self.assertEqual(walk.wrong, [], path)
             chunks += walk.chunks

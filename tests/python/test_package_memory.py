@@ -150,7 +150,11 @@ class Views(unittest.TestCase):
             ads_metafile.read(memoryview(SAMPLE.read_bytes())[::2])
         for empty in (b"", bytearray(), memoryview(b"abc")[1:1], array.array("I")):
             with ads_metafile.read(empty) as file:  # type: ignore[arg-type]
-                self.assertEqual((file.number, file.stop, len(file), file.listing()[:10]), (4, 0, 0, "header bad"))
+                self.assertEqual((file.number, file.stop, len(file), file.clean, file.header_good),
+                                 (0, 0, 0, False, False))
+                self.assertEqual(file.listing(), "header none\nchunks 0\nend 0 0\n")
+                self.assertEqual((file.words, file.strategy, file.mark), (None, None, None))
+                self.assertEqual(repr(file), "<ads_metafile.File None: 0 rows, not clean, no bytes>")
 
 
 class OnDisk(unittest.TestCase):
@@ -174,7 +178,7 @@ class OnDisk(unittest.TestCase):
         self.path.touch()
         for mapped in (False, True):
             with ads_metafile.open(self.path, mmap=mapped) as file:
-                self.assertEqual((file.number, file.clean, file.length, bytes(file.data)), (4, False, 0, b""))
+                self.assertEqual((file.number, file.clean, file.length, bytes(file.data)), (0, False, 0, b""))
 
     def test_no_descriptor_stays_open(self) -> None:
         before = os.listdir("/proc/self/fd")

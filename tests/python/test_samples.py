@@ -61,7 +61,7 @@ class Files(unittest.TestCase):
 
     def test_the_listings_are_of_the_same_files(self) -> None:
         same = {"one-chunk.ads": "sample", "open-chunk.ads": "open", "multichunk.ads": "multi",
-                "damaged-09-repeated.ads": "repeated", "damaged-04-no-bytes.ads": "empty"}
+                "damaged-09-repeated.ads": "repeated", "no-bytes.ads": "no-bytes"}
         for sample, name in same.items():
             self.assertEqual((SAMPLES / sample).read_bytes(), listings.CASES[name][0], name)
 
@@ -72,7 +72,8 @@ class Readings(unittest.TestCase):
             for mapped in (False, True):
                 with ads_metafile.open(SAMPLES / line.name, mmap=mapped) as file:
                     self.assertEqual((len(file), file.stop, file.number), (line.rows, line.stop, line.number), line)
-                    self.assertEqual(file.clean, line.number == 0, line)
+                    self.assertEqual(file.clean, line.said.startswith("clean, "), line)
+                    self.assertEqual(file.clean, line.number == 0 and line.name != "no-bytes.ads", line)
 
     def test_two_sums_are_bad(self) -> None:
         bad = []
@@ -111,7 +112,7 @@ class Check(unittest.TestCase):
     def test_status_of_each(self) -> None:
         good = [line.name for line in told() if line.said.endswith("all sums good")]
         self.assertEqual(check(*good).returncode, 0)
-        for name in ("bad-chunk-sum.ads", "bad-header-sum.ads", "damaged-04-no-bytes.ads"):
+        for name in ("bad-chunk-sum.ads", "bad-header-sum.ads", "no-bytes.ads"):
             self.assertEqual(check(name).returncode, 1, name)
 
 

@@ -26,6 +26,7 @@ use metafile::GatherAnswer;
 use metafile::ParentAnswer;
 use metafile::ReadAnswer;
 use metafile::Row;
+use metafile::clean::clean_at;
 
 #[no_mangle]
 pub extern "C" fn ads_begin(
@@ -65,12 +66,12 @@ pub extern "C" fn ads_read(file: &[u8], rows: &mut [Row]) -> ReadAnswer
     read::read(file, rows)
 }
 
-// "Clean means number 0 and stop at the file's end": of a reading of a file of so many bytes.
+// "Clean means number 0 and stop at the file's end": of a reading of a file of so many bytes, and never of no bytes.
 #[no_mangle]
 pub extern "C" fn ads_is_clean(reading: ReadAnswer, length: usize) -> bool
     ensures { λ r. ⌜ r ≡ cleanAt length (reading .number) (reading .stop) ⌝ }
 {
-    (reading.number == 0) & (reading.stop == length)
+    clean_at(length, reading.number, reading.stop)
 }
 
 // "or missing": no row beside a number, 0 included.

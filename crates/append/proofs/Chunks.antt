@@ -101,7 +101,7 @@ module _ (buffer : List ℕ) (len : ℕ) (g : Given) (e : firstRefusal (appendTe
         taken = t;
         lent = l;
         fits = formed-fits (g .description) in-form;
-        begun = clean-begun (length (take len buffer)) (take len buffer) (t .number-zero);
+        begun = clean-begun (length (take len buffer)) (take len buffer) (t .some-bytes) (t .number-zero);
         old-long = long;
         first-long = one;
         first-end = omega arith;

@@ -4,19 +4,17 @@
 --     refused-13 refused-9 refused-15 held   the three in their order
 --     closed-right open-is   16
 -- Assumes nothing.
-use Prim.Native.Nat.{ℕ, zero, suc}
-use mathlib.Core.Bool.{Bool, true, false, not, _&&_, _||_}
+use Prim.Native.Nat.{ℕ}
+use mathlib.Core.Bool.{Bool, true, false, not, _||_}
 use mathlib.Core.Path.{_≡_, refl, sym, _∙_}
 use mathlib.Core.List.{List, [], _++_}
-use native.Mathlib.Omega.{arith}
-use lib.Dec.{ltb, eqb}
+use lib.Dec.{ltb}
 use lib.ListN.{length}
-use borrow.Author.Tests.{ne-eqb}
 use Rattle.metafile.specs.declared.Description.{Description}
-use Rattle.metafile.specs.Bytes.{part, isZero, all, nonZero, same, find}
+use Rattle.metafile.specs.Bytes.{part, all, nonZero, same, find}
 use Rattle.metafile.specs.Header.{isLLC, markOf}
 use Rattle.metafile.specs.Chunk.{multiName}
-use Rattle.metafile.specs.Reading.{reading, isClean}
+use Rattle.metafile.specs.Reading.{reading, cleanAt, isClean}
 use Rattle.metafile.specs.Answers.{firstRefusal}
 use Rattle.metafile.specs.Append.{subFormatGiven, appendFormed}
 use Rattle.laws.proofs.Accepted.{refusal-first, refusal-next}
@@ -24,13 +22,12 @@ use Rattle.lines.specs.Words.{wordNo}
 use Rattle.writer.proofs.Placed.{part-whole}
 use Rattle.append.specs.Tests.{descriptionTests, fileTests, openRefused}
 use Rattle.writer.specs.Parents.{parentsRefused}
-use Rattle.laws.proofs.First.{isZero-eqb}
 
 -- ---- 12
 
-pub clean-is : (file : List ℕ) (number stop : ℕ) → number ≡ reading file .number → stop ≡ reading file .stop → (eqb number 0 && eqb stop (length file)) ≡ isClean file (reading file)
+pub clean-is : (file : List ℕ) (number stop : ℕ) → number ≡ reading file .number → stop ≡ reading file .stop → cleanAt (length file) number stop ≡ isClean file (reading file)
 unfolding isClean
-clean-is file number stop n e = rw (isZero-eqb number, n, e)
+clean-is file number stop n e = rw (n, e)
 
 -- ---- 6, 17
 

@@ -13,15 +13,15 @@ use lib.Seq.{length-take-le}
 use borrow.Author.Tests.{lt-ltb, le-ltb, ltb-false, not-false}
 use Rattle.metafile.specs.Bytes.{all, nonZero, same}
 use Rattle.metafile.specs.Fields.{known}
-use Rattle.metafile.specs.Header.{markOf, headerFault}
+use Rattle.metafile.specs.Header.{markOf}
 use Rattle.metafile.specs.Chunk.{multiName}
 use Rattle.metafile.specs.Reading.{reading, rowsOf, serialsOf, isClean}
 use Rattle.metafile.specs.Answers.{Test, refuse, firstRefusal, overLimit}
 use Rattle.metafile.specs.Append.{Given, subFormatGiven, appendFormed, parentsWrong, firstEnd, secondEnd, thirdEnd, openWrong, appendOverLimit, appendTests}
 use Rattle.laws.proofs.First.{test, or-false}
 use Rattle.laws.proofs.Accepted.{refusal-first, refusal-next, refusal-none}
-use Rattle.chunk_laws.proofs.File.{clean-begun}
-use Rattle.written_laws.proofs.Taken.{Taken, within, clean-parts, formed-parts, parents-parts}
+use Rattle.chunk_laws.proofs.File.{clean-parts}
+use Rattle.written_laws.proofs.Taken.{Taken, within, formed-parts, parents-parts}
 use Rattle.written_laws.proofs.Stretches.{length-first, length-third}
 use Rattle.append.specs.Tests.{descriptionTests, fileTests, openRefused}
 use Rattle.writer.specs.Parents.{parentsRefused}
@@ -34,12 +34,6 @@ unfolding firstRefusal
 refused-group [] us n = absurd (n refl)
 refused-group (t ∷ ts) us n =
     test (t .holds) (λ q. rw q) (λ q. rw q (refused-group ts us (λ z. n (rw q z))))
-
--- ---- what a test that does not refuse says
-
-pub clean-header : (file : List ℕ) → isClean file (reading file) ≡ true → headerFault file ≡ 0
-unfolding reading
-clean-header file e = clean-begun (length file) file (clean-parts file e .0)
 
 -- ---- in their order
 
@@ -160,8 +154,9 @@ module _ (buffer : List ℕ) (len : ℕ) (g : Given) where
                 record {
                   specific-small = specific-small;
                   contents-small = contents-small;
-                  number-zero = cleanly .0;
-                  stop-end = cleanly .1;
+                  some-bytes = cleanly .0;
+                  number-zero = cleanly .1;
+                  stop-end = cleanly .2;
                   in-given = form .0;
                   in-integrity = form .1;
                   plain = own-parts .1;

@@ -3,6 +3,7 @@
 use lines::words;
 use metafile::Description;
 use metafile::LIMIT;
+use metafile::clean::clean_at;
 use metafile::refusals;
 use table::numbers;
 use table::places;
@@ -54,7 +55,7 @@ fn is_clean(file: &[u8], number: u8, stop: usize) -> bool
     requires { ⌜ (number ≡ reading (now file) .number) × (stop ≡ reading (now file) .stop) ⌝ }
     ensures { λ r. ⌜ r ≡ isClean (now (file .entry)) (reading (now (file .entry))) ⌝ }
 {
-    (number == 0) & (stop == file.len())
+    clean_at(file.len(), number, stop)
 }
 
 // 6: each field as the reader judges it; an over-long text first.

@@ -2,23 +2,27 @@
 --     HeaderWhole, header-whole      the header's stages; fits-headerEnd: it lies inside the file
 --     ..-local                       with more bytes behind, mark, strategy, end and sum are the same
 --     read-begun read-unbegun        a reading of a file whose header is whole, or isn't
+--     clean-parts clean-header       what a clean file is; its header is whole
 --     file-goes-on                   a clean file with more bytes behind has the old rows, and goes on at the old end
 --     file-rows file-reading         n rows lent: the first n rows; where they hold all rows, the reading with rows enough
 --     file-few                       a row takes 856 bytes
 -- Assumes nothing.
-use Prim.Native.Nat.{ℕ, _+_, _*_, _≤_}
-use mathlib.Core.Bool.{false}
-use mathlib.Core.Path.{_≡_, sym, ap, _∙_}
+use Prim.Native.Nat.{ℕ, zero, suc, _+_, _*_, _≤_, _<_}
+use mathlib.Core.Bool.{true, false, _&&_}
+use mathlib.Core.Path.{_≡_, refl, sym, ap, _∙_}
 use mathlib.Core.List.{List, [], _++_}
 use native.Mathlib.Omega.{arith}
+use lib.Dec.{ltb, eqb}
 use lib.ListN.{length, take, drop, length-drop}
 use lib.Seq.{take-append-le, drop-append-le, length-take-le, take-nil}
+use borrow.Author.Tests.{ltb-true, eqb-true}
+use Rattle.metafile.specs.Bytes.{isZero}
 use Rattle.metafile.specs.Fields.{countValue}
 use Rattle.metafile.specs.Lines.{fieldFault, run}
 use Rattle.metafile.specs.Closing.{closing, sumPlace, closingEnd, sumGood}
 use Rattle.metafile.specs.Header.{isLLC, markLength, markOf, titleFault, markFault, headerFault, headerEnd, headerGood}
-use Rattle.metafile.specs.Reading.{Rows, halt, onto, readRows, Reading, withHeader, readFile, reading, rowsOf}
-use Rattle.laws.proofs.First.{cases, ⊳-left, ⊳-right, ⊳-both, choose-go, choose-stop}
+use Rattle.metafile.specs.Reading.{Rows, halt, onto, readRows, Reading, withHeader, unbegun, readFile, reading, rowsOf, isClean}
+use Rattle.laws.proofs.First.{cases, and-both, ⊳-left, ⊳-right, ⊳-both, choose-go, choose-stop}
 use Rattle.laws.proofs.Lists.{part-local}
 use Rattle.laws.proofs.Table.{field-enough, field-local, run-enough}
 use Rattle.laws.proofs.Distances.{size-closing}
@@ -107,16 +111,36 @@ pub read-begun : (n : ℕ) (file : List ℕ) → headerFault file ≡ 0 → read
 unfolding readFile rowsBehind
 read-begun n file e = choose-go (headerFault file) _ _ e
 
-pub read-unbegun : (n : ℕ) (file : List ℕ) → (headerFault file ≡ 0 → ⊥) → readFile n file ≡ withHeader false (halt 0 (headerFault file))
+pub read-unbegun : (n : ℕ) (file : List ℕ) → (headerFault file ≡ 0 → ⊥) → readFile n file ≡ withHeader false (halt 0 (unbegun (length file) (headerFault file)))
 unfolding readFile
 read-unbegun n file e = choose-stop (headerFault file) _ _ e
 
--- number 0: the header is whole
-pub clean-begun : (n : ℕ) (file : List ℕ) → readFile n file .number ≡ 0 → headerFault file ≡ 0
+-- of a file that has bytes the number is the header's fault
+pub unbegun-some : (long k : ℕ) → 0 < long → unbegun long k ≡ k
+unfolding unbegun isZero
+unbegun-some zero k some = absurd (omega arith)
+unbegun-some (suc n) k some = refl
+
+-- some bytes and number 0: the header is whole
+pub clean-begun : (n : ℕ) (file : List ℕ) → 0 < length file → readFile n file .number ≡ 0 → headerFault file ≡ 0
 unfolding withHeader halt
-clean-begun n file z =
+clean-begun n file some z =
     cases (headerFault file) (λ e. e)
-    (λ j e. absurd (omega (arith, e, rw (read-unbegun n file (λ q. absurd (omega arith))) at z)))
+    (λ j e. absurd (omega (arith, e, unbegun-some (length file) (headerFault file) some, rw (read-unbegun n file (λ q. absurd (omega arith))) at z)))
+
+pub clean-parts : (file : List ℕ) → isClean file (reading file) ≡ true
+    → (0 < length file) × (reading file .number ≡ 0) × (reading file .stop ≡ length file)
+unfolding isClean
+clean-parts file e =
+    let h = and-both (ltb 0 (length file) && eqb (reading file .number) 0) (eqb (reading file .stop) (length file)) e in
+    let k = and-both (ltb 0 (length file)) (eqb (reading file .number) 0) (h .0) in
+    (ltb-true _ _ (k .0), eqb-true _ _ (k .1), eqb-true _ _ (h .1))
+
+pub clean-header : (file : List ℕ) → isClean file (reading file) ≡ true → headerFault file ≡ 0
+unfolding reading
+clean-header file e =
+    let h = clean-parts file e in
+    clean-begun (length file) file (h .0) (h .1)
 
 pub header-cases : {A : Type 0} (file : List ℕ) → (headerFault file ≡ 0 → A) → ((headerFault file ≡ 0 → ⊥) → A) → A
 header-cases file f g = cases (headerFault file) f (λ j e. g (λ q. omega arith))
@@ -170,12 +194,12 @@ file-few file =
     (λ e. rw (rows-unbegun file e) (omega arith))
 
 -- a clean file with more bytes behind has the old rows, and goes on at the old end
-pub file-goes-on : (old t : List ℕ) (n : ℕ) → reading old .number ≡ 0
+pub file-goes-on : (old t : List ℕ) (n : ℕ) → 0 < length old → reading old .number ≡ 0
     → readFile (length (rowsOf old) + n) (old ++ t)
     ≡ withHeader (reading old .good) (onto (rowsOf old) (readRows n (isLLC old) (markOf old) (past (rowsOf old) []) (length old) t))
 unfolding rowsBehind Goes-on
-file-goes-on old t n z =
-    let e = clean-begun (length old) old (unfold reading in z) in
+file-goes-on old t n some z =
+    let e = clean-begun (length old) old some (unfold reading in z) in
     let w = header-whole old e in
     let end : headerEnd old + length (drop (headerEnd old) old) ≡ length old = simp length-drop (omega (arith, fits-headerEnd old w)) in
     let going = goes-on (isLLC old) (markOf old) (length old) [] (headerEnd old) (drop (headerEnd old) old) (rw (number-begun old e) at z) n t in

@@ -78,7 +78,7 @@ module _ (old : List ℕ) (g : Given) (a : Taken old g) where
   reads t r h n enough =
       let j : ℕ = n - suc (length (rowsOf old)) in
       let n-is : n ≡ length (rowsOf old) + suc j = omega arith in
-      rw (n-is, file-goes-on old t (suc j) (a .number-zero), h j)
+      rw (n-is, file-goes-on old t (suc j) (a .some-bytes) (a .number-zero), h j)
 
   pub finished-reads : Reads old (old ++ chunkBytes old g) (rowsOf old ++ newRow old g (firstEnd old g) (thirdEnd old g) ∷ []) (thirdEnd old g) 0
   unfolding thirdEnd secondEnd firstEnd

@@ -42,10 +42,10 @@ unfolding read overLimit limit readWith readAnswer filled
 read-is file table r small e = rw (le-ltb (2 ^ 30) (length file) small, e)
 
 -- a file that is read to its end has more bytes than rows
-rows-less : (old : List ℕ) → reading old .number ≡ 0 → length (rowsOf old) < length old
+rows-less : (old : List ℕ) → 0 < length old → reading old .number ≡ 0 → length (rowsOf old) < length old
 unfolding reading
-rows-less old z =
-    let w = header-whole old (clean-begun (length old) old z) in
+rows-less old some z =
+    let w = header-whole old (clean-begun (length old) old some z) in
     omega (arith, fits-headerEnd old w, headerEnd-least old, file-few old)
 
 pub cancel : (a b c : List ℕ) → a ++ b ≡ a ++ c → b ≡ c
@@ -60,13 +60,17 @@ pub reading-is : (old : List ℕ) (g : Given) → Taken old g → (t : List ℕ)
     → reading (old ++ t) ≡ record { rows = rows; stop = stop; good = reading old .good; number = number }
 unfolding Reads reading
 reading-is old g a t rows stop number r =
-    r (length (old ++ t)) (simp length-append (omega (arith, rows-less old (a .number-zero))))
+    r (length (old ++ t)) (simp length-append (omega (arith, rows-less old (a .some-bytes) (a .number-zero))))
 
 rows-read : (old : List ℕ) (g : Given) → Taken old g → (t : List ℕ) (rows : List Row) (stop number : ℕ) → Reads old (old ++ t) rows stop number → rowsOf (old ++ t) ≡ rows
 unfolding rowsOf
 rows-read old g a t rows stop number r = ap (λ (x : Reading). x .rows) (reading-is old g a t rows stop number r)
 
 module _ (old : List ℕ) (g : Given) (a : Taken old g) (small : length (old ++ chunkBytes old g) ≤ 2 ^ 30) where
+  -- "A cut append is never empty, since the old file has at least its header."
+  some : (t : List ℕ) → 0 < length (old ++ t)
+  some t = simp length-append (omega (arith, a .some-bytes))
+
   -- ---- the finished file
 
   module _ (r : Reads old (old ++ chunkBytes old g) (rowsOf old ++ newRow old g (firstEnd old g) (thirdEnd old g) ∷ []) (thirdEnd old g) 0) where
@@ -98,7 +102,7 @@ module _ (old : List ℕ) (g : Given) (a : Taken old g) (small : length (old ++ 
             found = found-kept old (chunkBytes old g) _ rows-done small;
             missing = λ k j q. absurd (q refl);
             found-late = λ k j q e. missing-late old (chunkBytes old g) _ rows-done small (omega arith) k j e;
-            clean-if = λ q. record { number = rw read-done; stop = rw read-done (sym (end-is old g a)) };
+            clean-if = λ q. record { some-bytes = some (chunkBytes old g); number = rw read-done; stop = rw read-done (sym (end-is old g a)) };
             clean-only-if = λ q. inr refl;
           }
 
@@ -121,7 +125,7 @@ module _ (old : List ℕ) (g : Given) (a : Taken old g) (small : length (old ++ 
       unfolding readWith
       clean-other (inl q) =
           let nothing : t ≡ [] = cancel old t [] (q ∙ sym (append-nil old)) in
-          record { number = rw read-other (nothing-zero nothing); stop = rw read-other (sym (ap length q)) }
+          record { some-bytes = some t; number = rw read-other (nothing-zero nothing); stop = rw read-other (sym (ap length q)) }
       clean-other (inr q) = absurd (not-done q)
 
       safe-other : Safe old g (firstEnd old g) (secondEnd old g) (thirdEnd old g) (old ++ chunkBytes old g) (old ++ t) table

@@ -74,10 +74,10 @@ pub number-3 :
 unfolding texts lentRow file3
 number-3 = refl
 
--- ---- "4 bytes end too soon": "No bytes: 4, stop 0."
+-- ---- "4 bytes end too soon": one byte, since no bytes read with 0 (metafile/proofs/NoBytes)
 
 pub number-4 :
-    read [] (lentRow ∷ [])
+    read (bytes "F") (lentRow ∷ [])
     ≡ record { answer = record { count = 0; stop = 0; good = false; number = 4 }; table = lentRow ∷ [] }
 unfolding texts lentRow
 number-4 = refl

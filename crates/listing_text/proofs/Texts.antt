@@ -10,15 +10,17 @@ use mathlib.Core.Path.{_≡_, refl, sym, ap, _∙_}
 use mathlib.Core.List.{List, [], _∷_, _++_, append-assoc, append-nil}
 use native.Mathlib.Numerals.{add-one}
 use native.Mathlib.Omega.{arith}
+use lib.Dec.{eqb}
 use lib.ListN.{length, take, getD, replicate}
 use lib.Seq.{take-suc, length-take-le}
 use borrow.Author.Tests.{lt-ltb, le-ltb}
 use Rattle.metafile.specs.declared.Row.{Row}
 use Rattle.metafile.specs.declared.ReadAnswer.{ReadAnswer}
 use Rattle.metafile.specs.Bytes.{bytes}
-use Rattle.metafile.specs.Listing.{decimal, lineOf, goodOrBad, rowLine, rowLines, endLine, listed, listing}
+use Rattle.metafile.specs.Listing.{decimal, lineOf, goodOrBad, rowLine, rowLines, endLine, headerWord, listed, listing}
 use Rattle.metafile.specs.Append.{noRow}
 use Rattle.metafile.specs.Calls.{read}
+use Rattle.laws.proofs.First.{isZero-eqb}
 use Rattle.read.specs.State.{readOutcome}
 use Rattle.read.specs.Table.{tableRows, tableReading}
 use Rattle.read.proofs.Enough.{table-is}
@@ -38,11 +40,11 @@ pub end-line : (stop number : ℕ) → ((101 ∷ 110 ∷ 100 ∷ []) ++ 32 ∷ [
 unfolding endLine lineOf
 end-line stop number = simp append-assoc
 
-pub head-is : (good : Bool) (count : ℕ)
-    → ((((104 ∷ 101 ∷ 97 ∷ 100 ∷ 101 ∷ 114 ∷ []) ++ 32 ∷ []) ++ (goodOrBad good ++ 10 ∷ [])) ++ ((99 ∷ 104 ∷ 117 ∷ 110 ∷ 107 ∷ 115 ∷ []) ++ 32 ∷ []))
-    ++ (decimal count ++ 10 ∷ []) ≡ headLines good count
+pub head-is : (none good : Bool) (count : ℕ)
+    → ((((104 ∷ 101 ∷ 97 ∷ 100 ∷ 101 ∷ 114 ∷ []) ++ 32 ∷ []) ++ (headerWord none good ++ 10 ∷ [])) ++ ((99 ∷ 104 ∷ 117 ∷ 110 ∷ 107 ∷ 115 ∷ []) ++ 32 ∷ []))
+    ++ (decimal count ++ 10 ∷ []) ≡ headLines none good count
 unfolding headLines lineOf
-head-is good count = simp append-assoc
+head-is none good count = simp append-assoc
 
 pub rows-none : (rows : List Row) → rowLines 0 (take 0 rows) ≡ []
 unfolding rowLines
@@ -62,17 +64,17 @@ rows-more rows i d h =
     let n : length (take i rows) ≡ i = length-take-le i rows (omega arith) in
     sym (rw (add-one, take-suc rows i d h) (rowLines-append 0 (take i rows) (getD rows i d ∷ []) ∙ rw (n, z, append-nil)))
 
-pub listed-is : (rows : List Row) (a : ReadAnswer) → a .count ≤ length rows
-    → (headLines (a .good) (a .count) ++ rowLines 0 (take (a .count) rows)) ++ endLine (a .stop) (a .number) ≡ listed (tableReading rows a)
+pub listed-is : (none : Bool) (rows : List Row) (a : ReadAnswer) → a .count ≤ length rows
+    → (headLines none (a .good) (a .count) ++ rowLines 0 (take (a .count) rows)) ++ endLine (a .stop) (a .number) ≡ listed none (tableReading rows a)
 unfolding listed headLines tableReading
-listed-is rows a h = rw (length-take-le (a .count) rows h)
+listed-is none rows a h = rw (length-take-le (a .count) rows h)
 
 -- "A program reads a file of up to 65,536 bytes .. with rows enough": the text of the table, and that of a longer file
 
 pub listing-short : (file : List ℕ) (rows : List Row) (a : ReadAnswer) → length file ≤ 65536 → readOutcome a rows ≡ read file (replicate tableRows noRow)
-    → listed (tableReading rows a) ≡ listing file
+    → listed (eqb (length file) 0) (tableReading rows a) ≡ listing file
 unfolding listing
-listing-short file rows a under is = rw (table-is file rows a under is, le-ltb 65536 (length file) under)
+listing-short file rows a under is = rw (isZero-eqb (length file), table-is file rows a under is, le-ltb 65536 (length file) under)
 
 pub listing-long : (file : List ℕ) → 65536 < length file → endLine 0 11 ≡ listing file
 unfolding listing

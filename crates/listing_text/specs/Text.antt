@@ -6,7 +6,7 @@ use lib.Dec.{ltb}
 use lib.ListN.{length}
 use Rattle.metafile.specs.Bytes.{bytes}
 use Rattle.metafile.specs.Answers.{Answer, result, refused, refuse, overLimit, Outcome, outcome, placed, unlessRefused}
-use Rattle.metafile.specs.Listing.{decimal, lineOf, goodOrBad, listing}
+use Rattle.metafile.specs.Listing.{decimal, lineOf, headerWord, listing}
 use Rattle.listing_text.specs.declared.ListingAnswer.{ListingAnswer}
 use Rattle.listing_text.specs.declared.ListingAnswer.the-variants.{Written, Refused}
 
@@ -14,9 +14,9 @@ use Rattle.listing_text.specs.declared.ListingAnswer.the-variants.{Writt
 unfoldable pub numbers : ℕ → ℕ → ℕ → ℕ → List ℕ
 numbers a b c d = (decimal a ++ bytes " ") ++ (decimal b ++ bytes " ") ++ (decimal c ++ bytes " ") ++ (decimal d ++ bytes " ")
 
--- "The header's sum (good or bad); the count of rows"
-unfoldable pub headLines : Bool → ℕ → List ℕ
-headLines good count = lineOf (bytes "header" ∷ goodOrBad good ∷ []) ++ lineOf (bytes "chunks" ∷ decimal count ∷ [])
+-- the header's word, of a file of no bytes or not; "the count of rows"
+unfoldable pub headLines : Bool → Bool → ℕ → List ℕ
+headLines none good count = lineOf (bytes "header" ∷ headerWord none good ∷ []) ++ lineOf (bytes "chunks" ∷ decimal count ∷ [])
 
 unfoldable pub listingAnswer : ListingAnswer → Answer
 listingAnswer (Written n) = result (n ∷ [])

@@ -35,7 +35,7 @@ fn put_listing(buffer: &mut [u8], input: &[u8]) -> usize
         return listed::put_end(buffer, 0, 0, refusals::OVER_LIMIT);
     }
     let table = local::read_table(input);
-    listed::put_listed(buffer, table)
+    listed::put_listed(buffer, input.len() == 0, table)
 }
 
 // Puts the text at the start of the buffer. Tests 11, of the buffer alone, then 18: an input that is too long is no

@@ -3,7 +3,7 @@
 ghost use mathlib.Core.List.{[], _∷_, _++_};
 ghost use Prim.Native.Nat.{_+_, _*_, _≤_};
 ghost use lib.ListN.{length, take};
-ghost use Rattle.metafile.specs.Listing.{goodOrBad, rowLine, rowLines, endLine, listed};
+ghost use Rattle.metafile.specs.Listing.{goodOrBad, rowLine, rowLines, endLine, headerWord, listed};
 ghost use Rattle.text.specs.Put.{Put};
 ghost use Rattle.read.specs.Table.{tableRows, tableReading};
 ghost use Rattle.listing_text.specs.Text.{numbers, headLines};
@@ -77,25 +77,36 @@ pub fn put_end(buffer: &mut [u8], at: usize, stop: usize, number: u8) -> usize
     put_decimal(buffer, b, number as usize, b'\n')
 }
 
-// "The header's sum (good or bad); the count of rows"
-fn put_head(buffer: &mut [u8], at: usize, good: bool, count: usize) -> usize
+// "The header's sum (good or bad)"; of a file of no bytes "none"
+fn put_header_word(buffer: &mut [u8], at: usize, none: bool, good: bool) -> usize
+    requires { ⌜ at + 5 ≤ length (now buffer) ⌝ }
+    ensures { λ r. ⌜ Put (headerWord none good ++ 10 ∷ []) at (now (buffer .entry)) r (now (buffer .exit)) × (r ≤ at + 5) ⌝ }
+{
+    if none {
+        return put_word(buffer, at, b"none", b'\n');
+    }
+    put_sum(buffer, at, good, b'\n')
+}
+
+// The header's word; "the count of rows"
+fn put_head(buffer: &mut [u8], at: usize, none: bool, good: bool, count: usize) -> usize
     requires { ⌜ at + 40 ≤ length (now buffer) ⌝ }
-    ensures { λ r. ⌜ Put (headLines good count) at (now (buffer .entry)) r (now (buffer .exit)) × (r ≤ at + 40) ⌝ }
+    ensures { λ r. ⌜ Put (headLines none good count) at (now (buffer .entry)) r (now (buffer .exit)) × (r ≤ at + 40) ⌝ }
 {
     let a = put_word(buffer, at, b"header", b' ');
-    let b = put_sum(buffer, a, good, b'\n');
+    let b = put_header_word(buffer, a, none, good);
     let c = put_word(buffer, b, b"chunks", b' ');
     put_decimal(buffer, c, count, b'\n')
 }
 
-// The listing of a table, at the start of a buffer that has room for any.
-pub fn put_listed(buffer: &mut [u8], table: Table) -> usize
+// The listing of a table, read from a file of no bytes or not, at the start of a buffer that has room for any.
+pub fn put_listed(buffer: &mut [u8], none: bool, table: Table) -> usize
     requires { ⌜ (table .answer .count ≤ tableRows) × (table .answer .count ≤ length (table .rows)) × (10240 ≤ length (now buffer)) ⌝ }
-    ensures { λ r. ⌜ Put (listed (tableReading (table .rows) (table .answer))) 0 (now (buffer .entry)) r (now (buffer .exit)) ⌝ }
+    ensures { λ r. ⌜ Put (listed none (tableReading (table .rows) (table .answer))) 0 (now (buffer .entry)) r (now (buffer .exit)) ⌝ }
 {
     let rows = table.rows;
     let answer = table.answer;
-    let a = put_head(buffer, 0, answer.good, answer.count);
+    let a = put_head(buffer, 0, none, answer.good, answer.count);
     let b = put_rows(buffer, a, rows, answer.count);
     put_end(buffer, b, answer.stop, answer.number)
 }

@@ -2,9 +2,11 @@
 -- Computed   opens every definition, for proofs by computing
 -- Cuts       demand 3 tried on two cuts
 -- Joint      the starred cases of the paper, as one theorem
+-- NoBytes    a file of no bytes
 -- Given      a text that is given, and what append sees of it
 pub mod Computed
 pub mod Samples
 pub mod Cuts
 pub mod Joint
+pub mod NoBytes
 pub mod Given

@@ -75,8 +75,9 @@ pub record HandedIn (old : List ℕ) (g : Given) (e₁ e₂ : ℕ) (file : List 
   pub writing-agent : integrityAt e₂ (markOf old) 192 32 file ≡ padded 32 (integrityGiven (g .description) .writingAgent)
   pub parents : (j : ℕ) → j < length (g .parents) → parent file (length (rowsOf old)) j ≡ result (getD (g .parents) j 0 ∷ 1 ∷ [])
 
--- "Clean means number 0 and stop at the file's end."
+-- "Clean means number 0 and stop at the file's end", and not of a file of no bytes.
 pub record Clean (file : List ℕ) (r : ReadOutcome) : Type 0 where
+  pub some-bytes : 0 < length file
   pub number : r .answer .number ≡ 0
   pub stop : r .answer .stop ≡ length file
 

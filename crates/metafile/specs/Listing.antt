@@ -5,7 +5,7 @@ use mathlib.Core.List.{List, [], _∷_, _++_}
 use lib.Dec.{ltb, eqb}
 use lib.ListN.{length}
 use Rattle.metafile.specs.declared.Row.{Row}
-use Rattle.metafile.specs.Bytes.{bytes}
+use Rattle.metafile.specs.Bytes.{bytes, isZero}
 use Rattle.metafile.specs.Fields.{digitsOf}
 use Rattle.metafile.specs.Reading.{Reading, reading}
 
@@ -40,14 +40,18 @@ rowLines k (r ∷ rs) = rowLine k r ++ rowLines (suc k) rs
 unfoldable pub endLine : ℕ → ℕ → List ℕ
 endLine stop number = lineOf (bytes "end" ∷ decimal stop ∷ decimal number ∷ [])
 
--- "The header's sum (good or bad); the count of rows"
-unfoldable pub listed : Reading → List ℕ
-listed r =
-    lineOf (bytes "header" ∷ goodOrBad (r .good) ∷ [])
+-- "The header's sum (good or bad)"; of a file of no bytes "header none"
+unfoldable pub headerWord : Bool → Bool → List ℕ
+headerWord none good = cond none (bytes "none") (goodOrBad good)
+
+-- the header's word; "the count of rows"; the lines of the rows and of the end
+unfoldable pub listed : Bool → Reading → List ℕ
+listed none r =
+    lineOf (bytes "header" ∷ headerWord none (r .good) ∷ [])
     ++ lineOf (bytes "chunks" ∷ decimal (length (r .rows)) ∷ [])
     ++ rowLines 0 (r .rows)
     ++ endLine (r .stop) (r .number)
 
 -- "A program reads a file of up to 65,536 bytes .. with rows enough"; "A longer input prints only "end 0 11"."
 unfoldable pub listing : List ℕ → List ℕ
-listing input = cond (ltb 65536 (length input)) (endLine 0 11) (listed (reading input))
+listing input = cond (ltb 65536 (length input)) (endLine 0 11) (listed (isZero (length input)) (reading input))

@@ -2,7 +2,7 @@
 use Prim.Native.Nat.{ℕ, zero, suc, _+_}
 use mathlib.Core.Bool.{Bool, true, false, cond, not, _&&_}
 use mathlib.Core.List.{List, [], _∷_, _++_, map}
-use lib.Dec.{eqb}
+use lib.Dec.{ltb, eqb}
 use lib.ListN.{length, take, drop}
 use Rattle.metafile.specs.declared.Row.{Row}
 use Rattle.metafile.specs.Bytes.{_⊳_, require, choose, isZero, isEmpty}
@@ -47,12 +47,17 @@ pub record Reading : Type 0 where
 unfoldable pub withHeader : Bool → Rows → Reading
 withHeader good r = record { rows = r .rows; stop = r .stop; good = good; number = r .number }
 
+-- "A file of no bytes now reads with number 0": the number where the header isn't whole, of a file of so many bytes whose
+-- header has the fault k
+unfoldable pub unbegun : ℕ → ℕ → ℕ
+unbegun long k = cond (isZero long) 0 k
+
 -- a reading of the file into n rows
 unfoldable pub readFile : ℕ → List ℕ → Reading
 readFile n file =
     choose (headerFault file)
     (withHeader (headerGood file) (readRows n (isLLC file) (markOf file) [] (headerEnd file) (drop (headerEnd file) file)))
-    (λ k. withHeader false (halt 0 k))
+    (λ k. withHeader false (halt 0 (unbegun (length file) k)))
 
 -- "a reading with rows enough": as many as the file has bytes are enough
 unfoldable pub reading : List ℕ → Reading
@@ -65,9 +70,10 @@ unfoldable pub serialsOf : List Row → List (List ℕ)
 serialsOf [] = []
 serialsOf (r ∷ rs) = r .serial ∷ serialsOf rs
 
--- "Clean means number 0 and stop at the file's end": of a file of so many bytes, by number and stop
+-- "Clean means number 0 and stop at the file's end": of a file of so many bytes, by number and stop. "Only begin starts a
+-- file, so this reading doesn't count as clean": a file of no bytes isn't
 abbrev pub cleanAt : ℕ → ℕ → ℕ → Bool
-cleanAt long number stop = isZero number && eqb stop long
+cleanAt long number stop = ltb 0 long && eqb number 0 && eqb stop long
 
 unfoldable pub isClean : List ℕ → Reading → Bool
 isClean file r = cleanAt (length file) (r .number) (r .stop)

@@ -1,8 +1,10 @@
 // The types of a SEG-UKOOA ADS metafile 1.00 that the definitions in specs/ name: the row, the answers of the six
 // calls, and the description of a chunk to append, with its methods. specs/ says what each call gives.
+//     clean         whether a file is clean
 //     fields_given  the description's methods
 //     refusals      the refusal numbers
 //     rows          the row of no chunk
+pub mod clean;
 mod fields_given;
 pub mod refusals;
 mod rows;

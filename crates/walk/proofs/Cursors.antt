@@ -2,7 +2,7 @@
 --     cursor-behind cursor-none first-behind   the cursor made behind n rows, and where the file header isn't whole
 --     There goes-.. there         a cursor that goes stands at a row of the reading: its place, its chunk
 --     Stops cursor-stopped stops   one that stops stands behind the last row, at the reading's stop, with the reading's number
---     stands unbegun              the file header of a cursor is whole, or there is no row
+--     stands no-rows              the file header of a cursor is whole, or there is no row
 --     onward                      where the reading stands behind the row of a cursor
 -- Assumes nothing.
 use Prim.Native.Nat.{ℕ, _+_, _≤_, _<_}
@@ -14,7 +14,7 @@ use lib.Dec.{ltb}
 use lib.ListN.{length}
 use borrow.Author.Tests.{lt-ltb, le-ltb, ltb-true, ltb-false}
 use Rattle.metafile.specs.Header.{headerFault}
-use Rattle.metafile.specs.Reading.{halt, withHeader, reading, rowsOf}
+use Rattle.metafile.specs.Reading.{halt, withHeader, unbegun, reading, rowsOf}
 use Rattle.laws.proofs.First.{test, untrue, choose-go, choose-stop}
 use Rattle.chunk_laws.proofs.File.{header-cases, good-begun, rows-unbegun, read-unbegun}
 use Rattle.walk.specs.declared.answers.Header.{Header}
@@ -22,7 +22,7 @@ use Rattle.walk.specs.declared.answers.Step.{Step}
 use Rattle.walk.specs.declared.cursor.Cursor.{Cursor}
 use Rattle.walk.specs.Walk.{headerOf, placeAfter, chunkAt, stopWith, stepOf}
 use Rattle.walk.specs.Index.{Indexed}
-use Rattle.walk.specs.Cursor.{Behind, cursorOf, cursorNone, cursorAt, At}
+use Rattle.walk.specs.Cursor.{Behind, cursorOf, cursorNone, numbered, cursorUnbegun, cursorAt, At}
 use Rattle.walk.proofs.Stages.{header-number, header-is}
 use Rattle.walk.proofs.Steps.{place-none, stop-is}
 use Rattle.walk.proofs.Index.{indexed-more}
@@ -33,11 +33,11 @@ use Rattle.walk.proofs.Loops.{Turn, turn}
 module _ (file : List ℕ) (n : ℕ) where
   cursor-begun : headerFault file ≡ 0 → cursorAt file n ≡ cursorOf (headerOf file) n (placeAfter file n) (stepOf file n)
   unfolding cursorAt
-  cursor-begun e = choose-go (headerFault file) _ cursorNone e
+  cursor-begun e = choose-go (headerFault file) _ (cursorUnbegun file) e
 
-  cursor-unbegun : (headerFault file ≡ 0 → ⊥) → cursorAt file n ≡ cursorNone (headerFault file)
+  cursor-unbegun : (headerFault file ≡ 0 → ⊥) → cursorAt file n ≡ cursorUnbegun file (headerFault file)
   unfolding cursorAt
-  cursor-unbegun e = choose-stop (headerFault file) _ cursorNone e
+  cursor-unbegun e = choose-stop (headerFault file) _ (cursorUnbegun file) e
 
   module _ (e : headerFault file ≡ 0) where
     pub cursor-row : n < length (rowsOf file)
@@ -55,14 +55,14 @@ cursor-behind {file} {h} {n} w is more =
     let e = header-is h file (w .header-is) (w .whole) .whole in
     record { is = rw (w .header-is, w .place-is, is) (sym (cursor-begun file n e)); few = w .few; indexed = more }
 
-pub cursor-none : (file : List ℕ) (h : Header) → h ≡ headerOf file → (h .number ≡ 0 → ⊥) → {c : Cursor} → c ≡ cursorNone (h .number)
-    → {index : List ℕ} → Indexed file 0 index → At file c index × (c .row ≡ 0)
-unfolding cursorNone
-cursor-none file h is z {c} e none =
-    let number = header-number h file is in
+pub cursor-none : (file : List ℕ) (h : Header) → h ≡ headerOf file → (h .number ≡ 0 → ⊥) → {c : Cursor} {n : ℕ} → c ≡ cursorNone (h .number)
+    → n ≡ unbegun (length file) (h .number) → {index : List ℕ} → Indexed file 0 index → At file (numbered c n) index × (c .row ≡ 0)
+unfolding cursorUnbegun cursorNone
+cursor-none file h is z {c} {n} e s none =
+    let fault = header-number h file is in
     let row : c .row ≡ 0 = ap (λ (x : Cursor). x .row) e in
-    let here : c ≡ cursorAt file (c .row) = e ∙ ap cursorNone number ∙ sym (cursor-unbegun file (c .row) (λ q. z (number ∙ q))) in
-    (record { is = here; few = omega arith; indexed = indexed-more none (omega arith) }, row)
+    let here : numbered c n ≡ cursorUnbegun file (headerFault file) = rw (e, s, fault) in
+    (record { is = here ∙ sym (cursor-unbegun file (c .row) (λ q. z (fault ∙ q))); few = omega arith; indexed = indexed-more none (omega arith) }, row)
 
 pub first-behind : (file : List ℕ) (h : Header) → h ≡ headerOf file → h .number ≡ 0 → Behind file h 0 (h .end)
 first-behind file h is z =
@@ -90,13 +90,13 @@ module _ (file : List ℕ) (c : Cursor) (n : ℕ) (is : c ≡ cursorAt file n) w
       let row : c .row ≡ n = ap (λ (x : Cursor). x .row) all in
       (row, record { header-is = header; whole = header-number (c .header) file header ∙ e; few = omega arith; place-is = rw row (ap (λ (x : Cursor). x .at) all) })
 
-  unbegun-is : (headerFault file ≡ 0 → ⊥) → c ≡ cursorNone (headerFault file)
+  unbegun-is : (headerFault file ≡ 0 → ⊥) → c ≡ cursorUnbegun file (headerFault file)
   unbegun-is e = is ∙ cursor-unbegun file n e
 
   -- a cursor that goes
   module _ (g : c .go ≡ true) where
     going : {A : Type 0} → (headerFault file ≡ 0 → n < length (rowsOf file) → A) → A
-    unfolding cursorNone stopWith
+    unfolding cursorUnbegun cursorNone stopWith
     going f =
         header-cases file
         (λ e. test (ltb n (length (rowsOf file)))
@@ -117,7 +117,7 @@ module _ (file : List ℕ) (c : Cursor) (n : ℕ) (is : c ≡ cursorAt file n) w
         record { begun = e; behind = b .1; turn = turn file e _ _ (c .layout) (rw (b .0) h) (b .1 .place-is) (layout ∙ ap (chunkAt file) place) })
 
   pub cursor-few : n ≤ length (rowsOf file) → c .row ≡ n
-  unfolding cursorNone
+  unfolding cursorUnbegun cursorNone
   cursor-few few =
       header-cases file
       (λ e. begun-behind e few .0)
@@ -125,7 +125,7 @@ module _ (file : List ℕ) (c : Cursor) (n : ℕ) (is : c ≡ cursorAt file n) w
 
   -- one that stops, behind no more rows than there are
   pub cursor-stopped : n ≤ length (rowsOf file) → c .go ≡ false → Stops file c
-  unfolding cursorNone stopWith reading withHeader halt
+  unfolding cursorUnbegun cursorNone stopWith reading withHeader halt
   cursor-stopped few g =
       header-cases file
       (λ e. test (ltb n (length (rowsOf file)))
@@ -158,13 +158,13 @@ module _ {file : List ℕ} {c : Cursor} {index : List ℕ} (w : At file c index)
 
   -- the file header is whole, or isn't
   pub stands : c .header .number ≡ 0 → Behind file (c .header) (c .row) (c .at)
-  unfolding cursorNone
+  unfolding cursorUnbegun cursorNone
   stands z =
       header-cases file (λ e. begun-behind file c (c .row) (w .is) e (w .few) .1)
       (λ e. absurd (e (sym (ap (λ (x : Cursor). x .header .number) (unbegun-is file c (c .row) (w .is) e)) ∙ z)))
 
-  pub unbegun : (c .header .number ≡ 0 → ⊥) → rowsOf file ≡ []
-  unbegun z = header-cases file (λ e. absurd (z (begun-behind file c (c .row) (w .is) e (w .few) .1 .whole))) (rows-unbegun file)
+  pub no-rows : (c .header .number ≡ 0 → ⊥) → rowsOf file ≡ []
+  no-rows z = header-cases file (λ e. absurd (z (begun-behind file c (c .row) (w .is) e (w .few) .1 .whole))) (rows-unbegun file)
 
 -- behind the row of a cursor
 pub onward : {file : List ℕ} {c : Cursor} → There file c → Behind file (c .header) (c .row + 1) (c .at + c .layout .end)

@@ -6,7 +6,7 @@ use mathlib.Core.List.{List}
 use lib.ListN.{length}
 use Rattle.metafile.specs.Bytes.{choose}
 use Rattle.metafile.specs.Header.{headerFault}
-use Rattle.metafile.specs.Reading.{rowsOf}
+use Rattle.metafile.specs.Reading.{unbegun, rowsOf}
 use Rattle.metafile.specs.Answers.{firstRefusal}
 use Rattle.metafile.specs.Calls.{contentsTests}
 use Rattle.walk.specs.declared.answers.Header.{Header}
@@ -38,10 +38,19 @@ cursorNone n =
       header = record { number = n; end = 0; mark = 0; llc = false; good = false };
     }
 
+-- a cursor with another number
+abbrev pub numbered : Cursor → ℕ → Cursor
+numbered c n = record { go = c .go; number = n; row = c .row; at = c .at; layout = c .layout; header = c .header }
+
+-- no row, since the file header has the fault k: the header keeps it, and the number is that of the reading
+unfoldable pub cursorUnbegun : List ℕ → ℕ → Cursor
+cursorUnbegun file k = numbered (cursorNone k) (unbegun (length file) k)
+
 -- behind n rows: row n with its place and its chunk, or the number with which the reading stops there; no row where the
 -- file header isn't whole
 unfoldable pub cursorAt : List ℕ → ℕ → Cursor
-cursorAt file n = choose (headerFault file) (cursorOf (headerOf file) n (placeAfter file n) (stepOf file n)) cursorNone
+cursorAt file n =
+    choose (headerFault file) (cursorOf (headerOf file) n (placeAfter file n) (stepOf file n)) (cursorUnbegun file)
 
 -- the cursor stands behind its rows, and the index has the rows up to it
 pub record At (file : List ℕ) (c : Cursor) (index : List ℕ) : Type 0 where

@@ -8,6 +8,7 @@ ghost use Rattle.walk.specs.Index.{Indexed};
 ghost use Rattle.walk.specs.Cursor.{cursorNone, Behind, At};
 use crate::answers::Header;
 use crate::headers::header;
+use crate::headers::unbegun;
 use crate::rows::no_layout;
 use crate::rows::step;
 use chunk::Layout;
@@ -72,7 +73,9 @@ pub fn first(file: &[u8], index: &mut [u32]) -> Cursor
 {
     let h = header(file);
     if h.number != 0 {
-        return none(h.number);
+        let mut c = none(h.number);
+        c.number = unbegun(file.len(), h.number);
+        return c;
     }
     behind(file, h, 0, h.end, index)
 }

@@ -3,6 +3,7 @@ ghost use mathlib.Core.Path.{_≡_};
 ghost use lib.ListN.{length};
 ghost use Rattle.metafile.specs.Lines.{fieldFault};
 ghost use Rattle.metafile.specs.Header.{titleFault, markFault, headerFault};
+ghost use Rattle.metafile.specs.Reading.{unbegun};
 ghost use Rattle.walk.specs.Walk.{headerOf};
 use crate::answers::Header;
 use lines::words;
@@ -57,6 +58,16 @@ fn header_fault(file: &[u8]) -> u8
         return mark;
     }
     chunk::closing_fault(file, places::MARK, &file[places::MARK..places::MARK + n])
+}
+
+// The number of a reading whose header isn't whole, of a file of so many bytes: the header's fault, and 0 for no bytes.
+pub fn unbegun(length: usize, fault: u8) -> u8
+    ensures { λ r. ⌜ r ≡ unbegun length fault ⌝ }
+{
+    if length == 0 {
+        return 0;
+    }
+    fault
 }
 
 // The file header: its first fault, or where it ends, its mark, strategy and sum.

@@ -7,7 +7,7 @@
 // Rests on chunk for one chunk and for the test of a sum, on index for the tags, on table, lines and fields for the header's
 // lines and values.
 //     answers  what the functions answer
-//     headers  the file header: strategy, mark, end, sum
+//     headers  the file header: strategy, mark, end, sum; the reading's number where it isn't whole
 //     earlier  serial numbers of earlier rows: looked up, and entered into the index
 //     rows     what stands behind i rows: the chunk, its serial number, the step
 //     cursor   the cursor over the rows: at the first, at the next

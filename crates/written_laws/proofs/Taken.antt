@@ -7,20 +7,20 @@ use Prim.Native.Nat.{ℕ, _^_, _≤_}
 use mathlib.Core.Bool.{true, false, not, _&&_, _||_}
 use mathlib.Core.Path.{_≡_, sym, ap, _∙_}
 use mathlib.Core.List.{List, [], _∷_}
-use lib.Dec.{ltb, eqb}
+use lib.Dec.{ltb}
 use lib.ListN.{length, take}
-use borrow.Author.Tests.{ltb-false, not-false, eqb-true}
-use Rattle.metafile.specs.Bytes.{isZero}
+use borrow.Author.Tests.{ltb-false, not-false}
 use Rattle.metafile.specs.Lines.{linesOf, formed}
 use Rattle.metafile.specs.Closing.{integrityLines, integrityValues}
 use Rattle.metafile.specs.Chunk.{givenLines}
-use Rattle.metafile.specs.Reading.{reading, rowsOf, isClean}
+use Rattle.metafile.specs.Reading.{rowsOf}
 use Rattle.metafile.specs.Answers.{result, limit, overLimit, Outcome, placed, firstRefusal}
 use Rattle.metafile.specs.Append.{Given, givenValues, integrityGiven, overLong, appendFormed, allBelow, repeated, parentsWrong, newChunk, firstEnd, secondEnd, thirdEnd, appendOverLimit, appendTests, append}
 use Rattle.metafile.specs.Demand.{Accepted}
 pub use Rattle.written_laws.specs.Taken.{Taken}
-use Rattle.laws.proofs.First.{and-both, or-false, isZero-zero}
+use Rattle.laws.proofs.First.{and-both, or-false}
 use Rattle.laws.proofs.Accepted.{refusal-none, accepted-none, accepted-is}
+use Rattle.chunk_laws.proofs.File.{clean-parts}
 
 pub record Lent (buffer : List ℕ) (len : ℕ) (g : Given) : Type 0 where
   pub buffer-small : length buffer ≤ 2 ^ 30
@@ -33,12 +33,6 @@ unfolding overLimit limit
 within n ns e =
     let h = or-false (ltb (2 ^ 30) n) (overLimit ns) e in
     (ltb-false (2 ^ 30) n (h .0), h .1)
-
-pub clean-parts : (file : List ℕ) → isClean file (reading file) ≡ true → (reading file .number ≡ 0) × (reading file .stop ≡ length file)
-unfolding isClean
-clean-parts file e =
-    let h = and-both (isZero (reading file .number)) (eqb (reading file .stop) (length file)) e in
-    (isZero-zero _ (h .0), eqb-true _ _ (h .1))
 
 pub formed-parts : (g : Given) → appendFormed (g .description) ≡ true
     → (formed (linesOf givenLines) (givenValues (g .description)) ≡ true)
@@ -78,8 +72,9 @@ taken buffer len g e =
       record {
         specific-small = l2 .0;
         contents-small = l3 .0;
-        number-zero = clean .0;
-        stop-end = clean .1;
+        some-bytes = clean .0;
+        number-zero = clean .1;
+        stop-end = clean .2;
         in-given = form .0;
         in-integrity = form .1;
         plain = h17 .0;

@@ -1,7 +1,7 @@
 -- What an accepted append says of the file and of what was given, each by the number of the test that gives it ("Append
 -- tests 11, 12, 6, 17, 13, 9, 15, 16, 18"): the hypotheses of demand 3. proofs/Taken.antt proves them of every accepted
 -- append. Assumes nothing.
-use Prim.Native.Nat.{ℕ, _^_, _≤_}
+use Prim.Native.Nat.{ℕ, _^_, _≤_, _<_}
 use mathlib.Core.Bool.{true, false}
 use mathlib.Core.Path.{_≡_}
 use mathlib.Core.List.{List}
@@ -20,6 +20,7 @@ pub record Taken (old : List ℕ) (g : Given) : Type 0 where
   pub specific-small : length (g .specific) ≤ 2 ^ 30
   pub contents-small : length (g .contents) ≤ 2 ^ 30
   -- 12 "file not clean"
+  pub some-bytes : 0 < length old
   pub number-zero : reading old .number ≡ 0
   pub stop-end : reading old .stop ≡ length old
   -- 6 "field out of form or range"

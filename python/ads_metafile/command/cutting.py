@@ -18,7 +18,8 @@ def run(options: Namespace, earned: Earned) -> None:
         if behind.file.clean:
             return put(f"{shown(options.file)}: clean, {counted(len(behind.file), 'chunk')}; nothing is to be cut\n")
         if behind.file.mark is None:
-            raise Declined(f"{stops(behind.file)}; without a whole header nothing is cut back")
+            why = "without a whole header nothing is cut back" if behind.file.length else "there is nothing to cut"
+            raise Declined(f"{stops(behind.file)}; {why}")
         if not options.yes:
             earned.add(REFUSED)
             return put(description(options.file, behind))

@@ -75,8 +75,8 @@ def add_reading(add: Callable[..., ArgumentParser]) -> None:
     made.add_argument("--bad", action="store_true", help="only rows with a bad sum")
     made = add("check", checking.run, "say whether files are clean and their sums good",
                "Says in one line for each file whether it is clean and its sums are good, and else at which byte its "
-               "reading stops and why. The status is 3 if a file couldn't be read, else 1 if one is refused or isn't "
-               "clean or a sum is bad.",
+               "reading stops and why, or that it has no bytes. The status is 3 if a file couldn't be read, else 1 if "
+               "one is refused or isn't clean or a sum is bad.",
                "  ads check *.ads\n  ads check --quiet *.ads || echo look at these")
     made.add_argument("file", nargs="+", metavar="FILE", help="metafile")
     made.add_argument("--quiet", action="store_true", help="print only what isn't good")

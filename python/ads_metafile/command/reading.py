@@ -56,7 +56,9 @@ def ending(file: File) -> str:
 
 
 def stops(file: File) -> str:
-    """'not clean: stops at byte .. with .. (..)'."""
+    """'not clean: stops at byte .. with .. (..)'; of a file of no bytes, which reads with 0, 'not clean: no bytes'."""
+    if file.length == 0:
+        return "not clean: no bytes"
     return f"not clean: stops at byte {file.stop:,} with {file.number} ({file.words})"
 
 

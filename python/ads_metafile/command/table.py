@@ -43,7 +43,7 @@ def title(given: Given) -> str:
     """'survey.ads: NUL, mark of 90 bytes, header good'."""
     file = given.file
     if file.mark is None:
-        about = "no whole header"
+        about = "no whole header" if file.length else "no header"
     else:
         mark = f"mark of {counted(len(file.mark), 'byte')}" if file.mark else "no mark"
         about = f"{file.strategy}, {mark}, header {'good' if file.header_good else 'BAD'}"

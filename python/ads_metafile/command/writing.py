@@ -25,6 +25,7 @@ APPEND_HINTS = {
     MULTICHUNK: "MultiChunks are only read",
     NO_ROOM: "the file would have more than 2^30 bytes, which can't be read; begin another file",
 }
+NO_FILE_YET = "only `ads begin` starts a file, under a name that is free"
 
 
 def seconds(text: str) -> float:
@@ -86,7 +87,8 @@ def append_hint(number: int, file: LockedFile, given: Values) -> str | None:
     if number == FORM:
         return out_of_form(given, "chunk")
     if number == NOT_CLEAN:
-        return f"{stops(read(file.read()))}; `ads cut-back {shown(file.path)}` shows what stands behind the stop"
+        done = f"`ads cut-back {shown(file.path)}` shows what stands behind the stop" if file.length else NO_FILE_YET
+        return f"{stops(read(file.read()))}; {done}"
     if number == NO_ROW:
         return f"parents are at most 16 different rows; {rows_there(read(file.read()))}"
     if number == REPEATED:

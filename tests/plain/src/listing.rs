@@ -22,14 +22,15 @@ pub fn listing(input: &[u8], buffer: &mut [u8]) -> Result<usize, u8> {
 }
 
 /// "The header's sum (good or bad); the count of rows; for each its row from 0, place, header bytes, contents bytes, sum
-/// (good or bad), serial; then stop and number. [..] A longer input prints only "end 0 11"."
+/// (good or bad), serial; then stop and number. [..] A longer input prints only "end 0 11"." No bytes: "header none".
 fn text(input: &[u8]) -> String {
     if input.len() > LONGEST {
         return "end 0 11\n".to_string();
     }
     let mut rows = [BLANK; ROWS];
     let reading = read(input, &mut rows);
-    let mut text = format!("header {}\nchunks {}\n", word(reading.good), reading.count);
+    let header = if input.is_empty() { "none" } else { word(reading.good) };
+    let mut text = format!("header {header}\nchunks {}\n", reading.count);
     for (number, row) in rows[..reading.count].iter().enumerate() {
         let serial = String::from_utf8_lossy(&row.serial);
         let (place, header, bytes, good) = (row.place, row.header, row.bytes, word(row.good));

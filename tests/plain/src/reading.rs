@@ -33,9 +33,10 @@ pub struct Reading {
 }
 
 impl Reading {
-    /// "Clean means number 0 and stop at the file's end": of a file of so many bytes.
+    /// "Clean means number 0 and stop at the file's end": of a file of so many bytes. Of no bytes: "this reading doesn't
+    /// count as clean".
     pub fn is_clean(&self, length: usize) -> bool {
-        self.number == 0 && self.stop == length
+        length != 0 && self.number == 0 && self.stop == length
     }
 }
 
@@ -81,13 +82,17 @@ pub fn rows<'a>(file: &'a [u8]) -> impl Iterator<Item = Chunk<'a>> {
 /// "Rows are a lent list of records; those past the count are not written."
 pub fn read(file: &[u8], rows: &mut [Row]) -> Reading {
     // "Read given 11 answers count 0, stop 0, header sum not good."
-    let refused = |number| Reading { count: 0, stop: 0, good: false, number };
+    let without_header = |number| Reading { count: 0, stop: 0, good: false, number };
     if over_limit(&[file.len()]) {
-        return refused(LIMIT);
+        return without_header(LIMIT);
+    }
+    // "A file of no bytes now reads with number 0, no rows, stop 0 and header sum not good, and no longer with 4."
+    if file.is_empty() {
+        return without_header(0);
     }
     let header = match Header::read(file) {
         Ok(header) => header,
-        Err(number) => return refused(number),
+        Err(number) => return without_header(number),
     };
     let mark = header.mark;
     let mut reading = Reading { count: 0, stop: header.end, good: header.sum_good(file), number: 0 };

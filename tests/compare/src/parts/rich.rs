@@ -124,7 +124,8 @@ fn every_damage(run: &mut Run, file: &File) {
 
 fn every_truncation(run: &mut Run, file: &File) {
     run.part = "every truncation of a rich file";
-    let whole: Vec<usize> = file.rows.iter().map(|row| row.end).chain([file.header_end]).collect();
+    // no bytes read with 0, too
+    let whole: Vec<usize> = file.rows.iter().map(|row| row.end).chain([0, file.header_end]).collect();
     for length in 0..file.bytes.len() {
         run.case = length as u64;
         let mut random = Random::new(run.seed, run.part, run.case);

@@ -43,7 +43,7 @@ fn smallest() {
     assert_eq!(reading(&file, 1).0, (1, 319 + 856, true, 0));
 }
 
-/// "One row lent, two chunks: 1 row, 10. No bytes: 4, stop 0."
+/// "One row lent, two chunks: 1 row, 10."
 #[test]
 fn rows_lent() {
     let two = [sample(), chunk(b"", 43, 3, b"xy")].concat();
@@ -51,10 +51,27 @@ fn rows_lent() {
     assert_eq!(reading(&two, 0).0, (0, 319, true, 10));
     assert_eq!(reading(&two, 2).0, (2, 1178 + 858, true, 0));
     assert_eq!(reading(&sample(), 1).0, (1, 1178, true, 0));
-    assert_eq!(reading(b"", 1).0, (0, 0, false, 4));
     let repeated = [sample(), chunk(b"", 42, 3, b"xy")].concat();
     assert_eq!(reading(&repeated, 1).0, (1, 1178, true, 9));
     assert_eq!(reading(&repeated[..repeated.len() - 1], 1).0, (1, 1178, true, 4));
+}
+
+/// "A file of no bytes now reads with number 0, no rows, stop 0 and header sum not good [..] Its slip is "header none",
+/// "chunks 0", "end 0 0", each on its line. [..] this reading doesn't count as clean". One byte is a header cut short.
+#[test]
+fn no_bytes_and_one() {
+    for (file, number, text) in
+        [(&b""[..], 0, "header none\nchunks 0\nend 0 0\n"), (b"F", 4, "header bad\nchunks 0\nend 0 4\n")]
+    {
+        for room in [0, 1, 4] {
+            assert_eq!(reading(file, room).0, (0, 0, false, number));
+        }
+        assert!(!plain::read(file, &mut []).is_clean(file.len()));
+        let mut buffer = [b'?'; 40];
+        assert_eq!(plain::listing(file, &mut buffer), Ok(text.len()));
+        assert_eq!(&buffer[..text.len()], text.as_bytes());
+        assert_eq!(plain::listing(file, &mut buffer[..text.len() - 1]), Err(18));
+    }
 }
 
 #[test]

@@ -1,15 +1,13 @@
 -- `ads::calls::ads_is_clean` meets its contract. Assumes nothing.
-use mathlib.Core.Bool.{Bool, _&&_}
-use mathlib.Core.Path.{ap}
-use lib.Dec.{eqb}
-use Rattle.laws.proofs.First.{isZero-eqb}
+use borrow.Author.Needs.{needs}
 use Rattle.ads.proofs.calls.ads_is_clean.Statement.{statement}
 use Rattle.ads.proofs.calls.ads_is_clean.Tie as tie
 
+clean-at-requires : tie.Need-clean-at-requires
+clean-at-requires c κs = search needs
+
 returns : tie.Need-returns
-returns c =
-    let args = c .before .before .args in
-    ap (λ (b : Bool). b && eqb (args .reading .stop) (args .length)) (isZero-eqb (args .reading .number))
+returns c = search needs
 
 pub ads-is-clean-spec : {M : Type 1} → statement M
-ads-is-clean-spec = tie.close (tie.spec returns)
+ads-is-clean-spec = tie.close (tie.spec clean-at-requires returns)

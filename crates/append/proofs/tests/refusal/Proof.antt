@@ -17,7 +17,8 @@ use Rattle.append.specs.Given.{givenOf}
 use Rattle.append.specs.Tests.{descriptionTests, fileTests, openRefused}
 use Rattle.append.proofs.Files.{number-is, mark-length, mark-fits}
 use Rattle.append.proofs.Surveyed.{testsOf, surveyed-number, surveyed-stop, tests-are}
-use Rattle.append.proofs.Refusals.{inside, clean-header, buffer-small, specific-small, contents-small, parents-few, refused-12, refused-own, refused-there, refused-16, refused-18, not-refused}
+use Rattle.chunk_laws.proofs.File.{clean-header}
+use Rattle.append.proofs.Refusals.{inside, buffer-small, specific-small, contents-small, parents-few, refused-12, refused-own, refused-there, refused-16, refused-18, not-refused}
 use Rattle.append.proofs.tests.refusal.Statement.{statement}
 use Rattle.append.proofs.tests.refusal.Tie as tie
 

@@ -12,8 +12,8 @@ slice-aggregate-put-word c = search needs
 put-word-requires : tie.Need-put-word-requires
 put-word-requires c κs = search needs
 
-put-sum-requires : tie.Need-put-sum-requires
-put-sum-requires c κs = search needs
+put-header-word-requires : tie.Need-put-header-word-requires
+put-header-word-requires c κs = search needs
 
 slice-aggregate-put-word-2 : tie.Need-slice-aggregate-put-word-2
 slice-aggregate-put-word-2 c = search needs
@@ -33,9 +33,9 @@ returns c =
     let put₃ = put₄ .before .before .before .before in
     let put₂ = put₃ .before .before .before .before .before in
     let put₁ = put₂ .before .before .before .before in (
-      put-is (head-is _ _)
-          (put-behind (put-behind (put-behind (put₁ .put-word .ensures .0) (put₂ .put-sum .ensures .0)) (put₃ .put-word2 .ensures .0)) (put₄ .put-decimal .ensures .0)),
-      omega (arith, put₁ .put-word .ensures .1, put₂ .put-sum .ensures .1, put₃ .put-word2 .ensures .1, put₄ .put-decimal .ensures .1),
+      put-is (head-is _ _ _)
+          (put-behind (put-behind (put-behind (put₁ .put-word .ensures .0) (put₂ .put-header-word .ensures .0)) (put₃ .put-word2 .ensures .0)) (put₄ .put-decimal .ensures .0)),
+      omega (arith, put₁ .put-word .ensures .1, put₂ .put-header-word .ensures .1, put₃ .put-word2 .ensures .1, put₄ .put-decimal .ensures .1),
     )
 
 pub put-head-spec : {M : Type 1} → statement M
@@ -44,7 +44,7 @@ put-head-spec =
     (tie.spec
     slice-aggregate-put-word
     put-word-requires
-    put-sum-requires
+    put-header-word-requires
     slice-aggregate-put-word-2
     put-word-requires-2
     put-decimal-requires

@@ -23,7 +23,7 @@ returns c =
     let put₂ = put₃ .before .before .before .before in
     let put₁ = put₂ .before .before .before .before in
     let start = put₁ .before .before .before .before .before in
-    put-is (listed-is (start .args .table .rows) (start .args .table .answer) (start .pre .1))
+    put-is (listed-is (start .args .none) (start .args .table .rows) (start .args .table .answer) (start .pre .1))
     (put-behind (put-behind (put₁ .put-head .ensures .0) (put₂ .put-rows .ensures .0)) (put₃ .put-end .ensures))
 
 pub put-listed-spec : {M : Type 1} → statement M

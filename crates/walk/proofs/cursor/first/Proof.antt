@@ -11,10 +11,14 @@ header-requires c κs = search needs
 none-requires : tie.Need-none-requires
 none-requires c κs = search needs
 
+unbegun-requires : tie.Need-unbegun-requires
+unbegun-requires c κs = search needs
+
 returns : tie.Need-returns
 returns c =
-    let h = c .before .before .before in
-    cursor-none _ (h .header .result) (h .header .ensures) (c .before .if1 .taken) (c .none .ensures) (c .before .before .before .before .before .before .pre)
+    let none = c .before in
+    let h = none .before .before .before in
+    cursor-none _ (h .header .result) (h .header .ensures) (none .before .if1 .taken) (none .none .ensures) (c .unbegun .ensures) (h .before .before .before .pre)
 
 behind-requires : tie.Need-behind-requires
 behind-requires c κs =
@@ -30,4 +34,4 @@ returns-2 c = search needs
 pub first-spec : {M : Type 1} → statement M
 first-spec =
     tie.close
-    (tie.spec header-requires none-requires returns behind-requires same-length returns-2)
+    (tie.spec header-requires none-requires unbegun-requires returns behind-requires same-length returns-2)

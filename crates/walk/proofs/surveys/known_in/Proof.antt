@@ -1,6 +1,6 @@
 -- `walk::surveys::known_in` meets its contract. Assumes nothing.
 use mathlib.Core.Path.{_∙_}
-use Rattle.walk.proofs.Cursors.{stands, unbegun, stops}
+use Rattle.walk.proofs.Cursors.{stands, no-rows, stops}
 use Rattle.walk.proofs.Index.{indexed-all}
 use Rattle.walk.proofs.Notes.{known-nowhere, known-everywhere}
 use native.Mathlib.Omega.{arith}
@@ -8,7 +8,7 @@ use Rattle.walk.proofs.surveys.known_in.Statement.{statement}
 use Rattle.walk.proofs.surveys.known_in.Tie as tie
 
 returns : tie.Need-returns
-returns c = known-nowhere _ (unbegun (c .before .before .before .before .before .pre .0) (c .if1 .taken))
+returns c = known-nowhere _ (no-rows (c .before .before .before .before .before .pre .0) (c .if1 .taken))
 
 seen-requires : tie.Need-seen-requires
 seen-requires c κs =
