@@ -1,4 +1,5 @@
-# ADS metafiles: build, try, install. Needs GNU make, gcc and python3; to build the library from nothing also rt.
+# ADS metafiles: build, try, install. Needs GNU make, gcc with GNU ld, and python3; to build the library from nothing also
+# rt.
 #
 #   make            the static library, proved, target/staticlib/libads.a, and the shared one, target/lib/libads.so.0
 #   make shared     the shared library alone, from the static one that is there; nothing is proved
@@ -28,7 +29,10 @@ endif
 
 VERSION := $(shell sed -n 's/^#define ADS_VERSION "\(.*\)"/\1/p' include/ads.h)
 SONAME := libads.so.$(firstword $(subst ., ,$(VERSION)))
+# the version nodes of the symbols; ads_read has a newer one, since it writes more of a row, and the old one for programs
+# that were linked before
 NODE := ADS_0.2
+NODE_READ := ADS_0.4
 ARCHIVE := target/staticlib/libads.a
 BUILT := target/lib
 REAL := libads.so.$(VERSION)
@@ -59,8 +63,9 @@ $(ARCHIVE):
 
 $(BUILT)/$(REAL): $(ARCHIVE) include/ads.h Makefile
 	mkdir -p $(BUILT)
-	echo '$(NODE) { global: ads_*; local: *; };' > $(BUILT)/ads.map
-	$(CC) -shared $(LDFLAGS) -Wl,-soname,$(SONAME) -Wl,--version-script=$(BUILT)/ads.map \
+	echo '$(NODE) { global: ads_*; local: *; }; $(NODE_READ) { global: ads_read; } $(NODE);' > $(BUILT)/ads.map
+	$(CC) -shared -fuse-ld=bfd $(LDFLAGS) -Wl,-soname,$(SONAME) -Wl,--version-script=$(BUILT)/ads.map \
+	    '-Wl,--defsym="ads_read@$(NODE)"=ads_read' \
 	    -Wl,-z,defs -Wl,-z,relro -Wl,-z,now -Wl,-z,noexecstack \
 	    -Wl,--whole-archive $(ARCHIVE) -Wl,--no-whole-archive -o $@.new
 	mv -f $@.new $@

@@ -23,8 +23,8 @@ extern "C" {
 #endif
 
 /* The version of this header and of its library; the number is major * 1000000 + minor * 1000 + patch. */
-#define ADS_VERSION "0.3.0"
-#define ADS_VERSION_NUMBER 3000
+#define ADS_VERSION "0.4.0"
+#define ADS_VERSION_NUMBER 4000
 
 /* ---- sizes */
 
@@ -102,6 +102,14 @@ static inline const char *ads_words(int number)
 
 /* ---- what is answered */
 
+/* How the end of a chunk was found, as its own bytes say. Of a MultiChunk it is by its mini-chunks, under LLC and NUL;
+   of another chunk by the mark exactly if its content length is 0, which only NUL has, and else it is counted. */
+enum {
+    ADS_COUNTED = 0,       /* by the content length */
+    ADS_FOUND = 1,         /* by the mark */
+    ADS_BY_MINI_CHUNKS = 2 /* by its mini-chunks */
+};
+
 /* One chunk of the table. The numbers beside the fields are their places in the struct. */
 typedef struct ads_row {
     uint8_t serial[38];  /*  0: serial number */
@@ -114,6 +122,7 @@ typedef struct ads_row {
     int64_t offset;      /* 88: time offset in units of 10^-10 second; 0 under SPE or NUL standard */
     bool multichunk;     /* 96: it is a MultiChunk */
     bool good;           /* 97: its sum is good */
+    uint8_t ending;      /* 98: how its end was found: ADS_COUNTED, ADS_FOUND or ADS_BY_MINI_CHUNKS */
 } ads_row;               /* 104 bytes, as all structs here aligned to 8 */
 
 typedef struct ads_reading {
@@ -244,8 +253,8 @@ ads_description ads_writing(ads_description d, const uint8_t date[8], const uint
 
 /* Appends a chunk to the file that the buffer's first `length` bytes hold; ADS_APPEND_ROOM says how long the buffer
    must be. parents are rows of that file, at most 16, none twice; specific data and contents are any bytes; open leaves
-   the content length 0 (NUL and TXT only). Bytes past the third end keep their state. Tests 11, 12, 6, 17, 13, 9, 15,
-   16, 18.
+   the content length 0 (NUL and TXT only), and the row says ADS_FOUND, else ADS_COUNTED. Bytes past the third end keep
+   their state. Tests 11, 12, 6, 17, 13, 9, 15, 16, 18.
    Then write the buffer's bytes from the old length to the first end, from there to the second, and from there to the
    third, each on disk before the next: after a power cut at any byte the file reads with its old rows, or whole. */
 ads_ends ads_append(uint8_t *buffer, size_t buffer_length, size_t length, ads_description description,

@@ -52,7 +52,8 @@ ENVIRONMENT = (("ADS_LIBRARY", "The path of the library libads.so.0, if it is to
                ("ADS_DEBUG", "Set to 1, an unexpected error is shown whole."))
 JSON = """
 Names never change; new ones may join. Numbers are exact; places count from the file's first byte; offset is in units
-of 10^-10 second, 0 where it doesn't count; mark is hexadecimal. In a file's name bytes that are no text show as \\xNN.
+of 10^-10 second, 0 where it doesn't count; mark is hexadecimal; ending says how the end of the chunk was found: counted
+(by the content length), found (by the mark) or by mini-chunks. In a file's name bytes that are no text show as \\xNN.
 Where a header isn't whole, strategy and mark are null; words is null where number is 0. A file of no bytes has number 0
 and isn't clean. The columns of tsv and csv are those of a row. error says why a file couldn't be read; then good is
 false and the rest null."""

@@ -116,7 +116,7 @@ class File:
 
     def records(self) -> Iterator[Record]:
         """The rows as plain tuples, quickly: serial number as bytes, place, header, contents place, bytes, end,
-        dependencies, offset, multichunk, good."""
+        dependencies, offset, multichunk, good, ending (the number of an `Ending`)."""
         return _rows.records(self._table(), self._count)
 
     def to_numpy(self) -> Any:

@@ -19,14 +19,14 @@ Text: TypeAlias = str | bytes
 
 MOST_BYTES = 2**30
 SONAME = "libads.so.0"
-VERSION_NODE = "ADS_0.2"
+VERSION_NODE = "ADS_0.4"
 _REMEDY = f"run `make` in the repository, or set ADS_LIBRARY to the path of {SONAME}"
 
 
 class Row(Structure):
     _fields_ = [("serial", c_uint8 * 38), ("place", c_size_t), ("header", c_size_t), ("contents", c_size_t),
                 ("bytes", c_size_t), ("end", c_size_t), ("dependencies", c_size_t), ("offset", c_int64),
-                ("multichunk", c_bool), ("good", c_bool)]
+                ("multichunk", c_bool), ("good", c_bool), ("ending", c_uint8)]
 
 
 class Reading(Structure):

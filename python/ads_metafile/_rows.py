@@ -6,6 +6,7 @@ chunk, which the library has found whole.
 from __future__ import annotations
 
 import struct
+from enum import Enum
 from itertools import islice
 from mmap import mmap
 from typing import TYPE_CHECKING, Any, Iterator, TypeAlias
@@ -15,11 +16,11 @@ from . import _library
 if TYPE_CHECKING:
     from ._file import File
 
-Record: TypeAlias = tuple[bytes, int, int, int, int, int, int, int, bool, bool]
+Record: TypeAlias = tuple[bytes, int, int, int, int, int, int, int, bool, bool, int]
 
-RECORD = struct.Struct("<38s2x6Qq2?6x")
+RECORD = struct.Struct("<38s2x6Qq2?B5x")
 FIELDS = tuple(name for name, *_ in _library.Row._fields_)
-_NUMPY_FORMATS = ["S38"] + ["<u8"] * 6 + ["<i8", "?", "?"]
+_NUMPY_FORMATS = ["S38"] + ["<u8"] * 6 + ["<i8", "?", "?", "u1"]
 
 _SMALLEST_CHUNK = 856
 
@@ -75,6 +76,20 @@ def _text(data: memoryview, place: int, width: int) -> str:
     return data[place:place + width].tobytes().rstrip(b" ").decode("ascii")
 
 
+class Ending(Enum):
+    """How the end of a chunk was found. As text it is in the words of the command."""
+
+    COUNTED = 0  # by the content length
+    FOUND = 1  # by the mark, where the content length is 0
+    BY_MINI_CHUNKS = 2  # by the mini-chunks of a MultiChunk
+
+    def __str__(self) -> str:
+        return ENDING_WORDS[self.value]
+
+
+ENDING_WORDS = ("counted", "found", "by mini-chunks")
+
+
 class Row:
     r"""A chunk of the table, as the library read it: a view of the table's memory, valid while the file is open.
 
@@ -89,9 +104,9 @@ class Row:
     ...     recording=("20240229", "RECORDER"), writing=("20240301", "DESK"))
     >>> with ads_metafile.read(ads_metafile.append(data, description, b"abc").data) as file:
     ...     row = file[0]
-    ...     row.serial, row.place, row.bytes, row.offset, row.good, row.sub_format
+    ...     row.serial, row.place, row.bytes, row.offset, row.good, row.ending.name, row.sub_format
     ...     bytes(row.contents)
-    ('#20240229123456789SURVEYDESK0100042001', 319, 3, 80350000000, True, 'ADS\\DATA\\TEST')
+    ('#20240229123456789SURVEYDESK0100042001', 319, 3, 80350000000, True, 'COUNTED', 'ADS\\DATA\\TEST')
     b'abc'
     """
 
@@ -162,6 +177,11 @@ class Row:
         return self.record[9]
 
     @property
+    def ending(self) -> Ending:
+        """How its end was found."""
+        return Ending(self.record[10])
+
+    @property
     def sub_format(self) -> str:
         """Sub-format, without its trailing spaces."""
         return sub_format_at(self._file._bytes(), self.place)
@@ -174,9 +194,10 @@ class Row:
 
     def as_dict(self) -> dict[str, Any]:
         """All values, under the names of the command's JSON."""
-        serial, *values = self.record
-        named = dict(zip(FIELDS[1:], values))
-        return {"row": self.index, "serial": serial.decode("ascii"), **named, "sub_format": self.sub_format}
+        serial, *values, ending = self.record
+        named = dict(zip(FIELDS[1:-1], values, strict=True))
+        return {"row": self.index, "serial": serial.decode("ascii"), **named, "sub_format": self.sub_format,
+                "ending": ENDING_WORDS[ending]}
 
     def __eq__(self, other: object) -> bool:
         return self.index == other.index and self.record == other.record if isinstance(other, Row) else NotImplemented

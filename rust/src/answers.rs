@@ -4,6 +4,39 @@ use std::fmt;
 use crate::show::Bytes;
 use crate::{ffi, Refusal};
 
+/// How the end of a chunk was found. Displayed, it is in words.
+///
+/// ```
+/// use ads::Ending;
+///
+/// let survey = std::fs::read("../samples/survey.ads")?;
+/// let endings: Vec<Ending> = ads::read_all(&survey).rows.iter().map(|row| row.ending).collect();
+/// assert_eq!(endings, [Ending::Counted, Ending::Found, Ending::ByMiniChunks, Ending::Counted]);
+/// assert_eq!(Ending::ByMiniChunks.to_string(), "by mini-chunks");
+/// # Ok::<(), std::io::Error>(())
+/// ```
+#[repr(u8)]
+#[derive(Clone, Copy, Debug, Default, PartialEq, Eq, PartialOrd, Ord, Hash)]
+pub enum Ending {
+    /// By the content length.
+    #[default]
+    Counted = 0,
+    /// By the mark, where the content length is 0.
+    Found = 1,
+    /// By the mini-chunks of a MultiChunk.
+    ByMiniChunks = 2,
+}
+
+impl fmt::Display for Ending {
+    fn fmt(&self, f: &mut fmt::Formatter<'_>) -> fmt::Result {
+        f.write_str(match self {
+            Ending::Counted => "counted",
+            Ending::Found => "found",
+            Ending::ByMiniChunks => "by mini-chunks",
+        })
+    }
+}
+
 /// One chunk of the table. Places are counted from the file's first byte.
 #[repr(C)]
 #[derive(Clone, Copy, PartialEq, Eq, Hash)]
@@ -28,9 +61,11 @@ pub struct Row {
     pub multichunk: bool,
     /// Its sum is good.
     pub good: bool,
+    /// How its end was found: the library writes no byte here that is none of these.
+    pub ending: Ending,
 }
 
-/// A row to be written over: all 0 and false.
+/// A row to be written over: all 0, false and counted.
 impl Default for Row {
     fn default() -> Row {
         Row {
@@ -44,6 +79,7 @@ impl Default for Row {
             offset: 0,
             multichunk: false,
             good: false,
+            ending: Ending::Counted,
         }
     }
 }
@@ -62,6 +98,7 @@ impl fmt::Debug for Row {
             .field("offset", &self.offset)
             .field("multichunk", &self.multichunk)
             .field("good", &self.good)
+            .field("ending", &self.ending)
             .finish()
     }
 }

@@ -2,7 +2,7 @@
 use std::mem::{align_of, offset_of, size_of};
 
 use crate::description::{Description, Text};
-use crate::{ffi, Row};
+use crate::{ffi, Ending, Row};
 
 macro_rules! layout {
     ($type:ty, $size:literal: $($field:ident $place:literal),*) => {
@@ -14,7 +14,8 @@ macro_rules! layout {
 }
 
 layout!(Row, 104: serial 0, place 40, header 48, contents 56, bytes 64, end 72);
-layout!(Row, 104: dependencies 80, offset 88, multichunk 96, good 97);
+layout!(Row, 104: dependencies 80, offset 88, multichunk 96, good 97, ending 98);
+const _: () = assert!(size_of::<Ending>() == 1);
 layout!(ffi::Reading, 24: count 0, stop 8, good 16, number 17);
 layout!(ffi::Written, 16: length 0, number 8);
 layout!(ffi::Parent, 16: row 0, found 8, agree 9, number 10);

@@ -10,7 +10,7 @@ mod show;
 mod sizes;
 mod writing;
 
-pub use answers::{Ends, Parent, Reading, Row, Table};
+pub use answers::{Ending, Ends, Parent, Reading, Row, Table};
 pub use description::Description;
 pub use reading::{contents, gather, listing, parent, read, read_all};
 pub use refusal::Refusal;

@@ -83,8 +83,9 @@ pub fn begin(header: &Header<'_>, buffer: &mut [u8]) -> Result<usize, Refusal> {
 
 /// Appends a chunk to the file that the buffer's first `length` bytes hold; [`append_room`](crate::append_room) says
 /// how long the buffer must be. The parents are rows of that file, at most 16, none twice; `open` leaves the content
-/// length 0 (NUL and TXT only). Then write the buffer's bytes from the old length to the first end, from there to the
-/// second, and from there to the third, each on disk before the next.
+/// length 0 (NUL and TXT only), and the row says [`Found`](crate::Ending::Found), else
+/// [`Counted`](crate::Ending::Counted). Then write the buffer's bytes from the old length to the first end, from there to
+/// the second, and from there to the third, each on disk before the next.
 ///
 /// ```
 /// let file = std::fs::read("../samples/one-chunk.ads")?;

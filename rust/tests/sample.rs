@@ -1,5 +1,5 @@
 //! The sample of the specification, and one answer of each kind from every call.
-use ads::{Description, Ends, Header, Parent, Refusal, Row};
+use ads::{Description, Ending, Ends, Header, Parent, Refusal, Row};
 
 const HEADER: Header = Header {
     strategy: b"LLC",
@@ -39,6 +39,7 @@ fn first_row() -> Row {
         offset: 80_350_000_000,
         multichunk: false,
         good: true,
+        ending: Ending::Counted,
     }
 }
 
@@ -139,6 +140,20 @@ fn a_chunk_with_parents() {
     assert_eq!(ads::contents(alone, 0), Ok(&b""[..]));
 }
 
+/// After an append the row says the way the caller chose.
+#[test]
+fn open_and_counted() {
+    let under_nul = Header { strategy: b"NUL", mark: b"ABAB", ..HEADER };
+    for (open, ending) in [(true, Ending::Found), (false, Ending::Counted)] {
+        let mut buffer = [7; 4096];
+        let length = ads::begin(&under_nul, &mut buffer).unwrap();
+        let ends = ads::append(&mut buffer, length, described(FIRST), &[], b"", b"QA", open).unwrap();
+        let table = ads::read_all(&buffer[..ends.third]);
+        assert!(table.reading.is_clean(&buffer[..ends.third]));
+        assert_eq!((table.rows.len(), table.rows[0].bytes, table.rows[0].ending), (1, 2, ending));
+    }
+}
+
 #[test]
 fn refusals() {
     let (mut buffer, length) = sample();
@@ -173,6 +188,7 @@ fn numbers_of_refusals() {
 fn shown_as_text() {
     let row = format!("{:?}", first_row());
     assert!(row.starts_with("Row { serial: b\"#20240229123456789SURVEYDESK0100042001\", place: 319, header: 568,"));
+    assert!(row.ends_with("good: true, ending: Counted }"));
     let header = format!("{:?}", Header { mark: b"*\n", ..HEADER });
     assert!(header.starts_with("Header { strategy: b\"LLC\", mark: b\"*\\n\", serial: b\"#2024"));
 
@@ -188,6 +204,7 @@ fn mini_chunks() {
     let file = include_bytes!("../../samples/multichunk.ads");
     let table = ads::read_all(file);
     assert!(table.reading.is_clean(file) && table.rows.len() == 1 && table.rows[0].multichunk);
+    assert_eq!(table.rows[0].ending, Ending::ByMiniChunks);
 
     let mut joined = [7; 8];
     assert_eq!(ads::gather(file, 0, b"P2/91", &mut joined), Ok(5));

@@ -54,12 +54,17 @@ static size_t make_file(void)
     return ends.third;
 }
 
+static const char *ending_words(uint8_t ending)
+{
+    return ending == ADS_COUNTED ? "counted" : ending == ADS_FOUND ? "found" : "by mini-chunks";
+}
+
 static void print_rows(const ads_row *rows, size_t count, size_t length)
 {
     for (size_t k = 0; k < count; k++) {
         ads_part part = ads_contents(buffer, length, k);
-        printf("row %zu: serial %.*s, offset %lld, contents \"%.*s\"\n", k, ADS_SERIAL_BYTES,
-               (const char *)rows[k].serial, (long long)rows[k].offset, (int)part.bytes,
+        printf("row %zu: serial %.*s, offset %lld, %s contents \"%.*s\"\n", k, ADS_SERIAL_BYTES,
+               (const char *)rows[k].serial, (long long)rows[k].offset, ending_words(rows[k].ending), (int)part.bytes,
                (const char *)buffer + part.place);
     }
 }

@@ -25,6 +25,7 @@ PLACE(ads_row, dependencies, 80);
 PLACE(ads_row, offset, 88);
 PLACE(ads_row, multichunk, 96);
 PLACE(ads_row, good, 97);
+PLACE(ads_row, ending, 98);
 
 SIZE(ads_reading, 24);
 PLACE(ads_reading, count, 0);
@@ -77,6 +78,8 @@ PLACE(ads_description, written, 456);
 PLACE(ads_description, writer, 464);
 
 static_assert(sizeof(((ads_row *)0)->serial) == ADS_SERIAL_BYTES, "ADS_SERIAL_BYTES");
+static_assert(sizeof(((ads_row *)0)->ending) == 1, "ending");
+static_assert(ADS_COUNTED == 0 && ADS_FOUND == 1 && ADS_BY_MINI_CHUNKS == 2, "endings");
 static_assert(ADS_MOST_ROWS(0) == 1 && ADS_MOST_ROWS(319 + 856) == 2, "ADS_MOST_ROWS");
 static_assert(ADS_BEGIN_ROOM(0) == 319 && ADS_BEGIN_ROOM(90) == 499, "ADS_BEGIN_ROOM");
 static_assert(ADS_APPEND_ROOM(319, 0, 0, 0, 3) == 1178, "ADS_APPEND_ROOM");

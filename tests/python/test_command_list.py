@@ -18,17 +18,17 @@ SURVEY = header("NUL", MARK) + plain(MARK, FIRST, bytes(1048576), P2) + plain(MA
 
 TABLE = (
     "survey.ads: NUL, mark of 90 bytes, header good\n"
-    "row  place    header  contents      bytes  end       deps  offset s      sum   "
+    "row  place    header  contents      bytes  end       deps  offset s      sum   ending          "
     "serial                                  sub-format\n"
-    "  0  499      568     1101      1,048,576  1050111      0  +8.035        good  "
+    "  0  499      568     1101      1,048,576  1050111      0  +8.035        good  counted         "
     "#20240229123456789SURVEYDESK0100042001  ADS\\DATA\\P2\n"
-    "  1  1050111  912     1051057         120  1051611      1  -             BAD   "
+    "  1  1050111  912     1051057         120  1051611      1  -             BAD   counted         "
     "#20240229123456789SURVEYDESK0100043002  ADS\\DATA\\EDIT\n"
     "2 chunks, 1 with a bad sum; clean: all 1,051,611 bytes read\n")
 NAMES = ["row", "serial", "place", "header", "contents", "bytes", "end", "dependencies", "offset", "multichunk", "good",
-         "sub_format"]
-VALUES = [[0, FIRST, 499, 568, 1101, 1048576, 1050111, 0, 80350000000, False, True, "ADS\\DATA\\P2"],
-          [1, SECOND, 1050111, 912, 1051057, 120, 1051611, 1, 0, False, False, "ADS\\DATA\\EDIT"]]
+         "sub_format", "ending"]
+VALUES = [[0, FIRST, 499, 568, 1101, 1048576, 1050111, 0, 80350000000, False, True, "ADS\\DATA\\P2", "counted"],
+          [1, SECOND, 1050111, 912, 1051057, 120, 1051611, 1, 0, False, False, "ADS\\DATA\\EDIT", "counted"]]
 OBJECT = {"file": "survey.ads", "bytes": 1051611, "strategy": "NUL", "mark": MARK.hex(), "header_good": True,
           "count": 2, "stop": 1051611, "number": 0, "words": None, "clean": True, "being_written": False,
           "rows": [dict(zip(NAMES, row)) for row in VALUES]}
@@ -82,6 +82,31 @@ class Formats(CommandTest):
                              "ads: survey.ads: being written\n")
             fcntl.flock(writer, fcntl.LOCK_SH)
             self.assertEqual(self.expect(0, "list", "survey.ads").output, TABLE)
+
+
+class Endings(CommandTest):
+    """How the end was found: an open chunk, a counted one with the mark in its data, a MultiChunk, a bad sum."""
+
+    def setUp(self) -> None:
+        super().setUp()
+        minis = multi(MARK, THIRD, [Type("P2/91", "ADS\\DATA\\DEPTH")], [("P2/91", b"12345")])
+        self.path("a.ads", header("NUL", MARK) + plain(MARK, FIRST, b"log", is_open=True)
+                  + plain(MARK, SECOND, b"x" + MARK) + minis + plain(MARK, FOURTH, b"", is_open=True, off=1))
+        self.right = ["found", "counted", "by mini-chunks", "found"]
+
+    def test_table(self) -> None:
+        lines = self.expect(0, "list", "a.ads").lines[1:-1]
+        at = lines[0].index
+        self.assertEqual([line[at("ending"):at("serial")].strip() for line in lines[1:]], self.right)
+        self.assertEqual([line[at("sum"):at("ending")].strip() for line in lines[1:]], ["good", "good", "good", "BAD"])
+
+    def test_for_programs(self) -> None:
+        tsv = [line.split("\t") for line in self.expect(0, "list", "--format", "tsv", "a.ads").lines]
+        self.assertEqual([line[NAMES.index("ending")] for line in tsv], ["ending"] + self.right)
+        table = list(csv.DictReader(io.StringIO(self.expect(0, "list", "--format", "csv", "a.ads").output)))
+        self.assertEqual([row["ending"] for row in table], self.right)
+        found = json.loads(self.expect(0, "list", "--format", "json", "a.ads").output)
+        self.assertEqual([row["ending"] for row in found["rows"]], self.right)
 
 
 class Rows(CommandTest):

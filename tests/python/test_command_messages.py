@@ -65,7 +65,7 @@ class Names(CommandTest):
                 self.assertTrue("".join(lines).isascii())
             lines = self.expect(0, "list", "--format=tsv", *NAMES, env=env).output.split("\n")
             self.assertEqual(len(lines), len(NAMES) + 2)
-            self.assertEqual({line.count("\t") for line in lines[:-1]}, {12})
+            self.assertEqual({line.count("\t") for line in lines[:-1]}, {13})
 
     def test_jq_reads_it(self) -> None:
         output = self.expect(0, "list", "--format=json", *NAMES).bytes

@@ -245,14 +245,35 @@ class Linked(Case):
                 printed = self.run_quietly(program, **path).stdout
                 listing = (ROOT / "crates/listing/stdout").read_text(encoding="utf-8")
                 self.assertEqual(printed.splitlines()[-4:], listing.splitlines())
+                self.assertIn(', counted contents "abc"\n', printed)
+
+    def test_programs_and_libraries_of_before_0_4(self) -> None:
+        """A program that was linked to the library of before runs with this one. One that is linked to this one doesn't
+        run with that of before, which writes no ending into a row."""
+        before, now = self.folder / "before", self.checkout / "target/lib"
+        before.mkdir()
+        (before / "ads.map").write_text("ADS_0.2 { global: ads_*; local: *; };")
+        self.run_quietly("gcc", "-shared", "-Wl,-soname,libads.so.0", f"-Wl,--version-script={before}/ads.map",
+                         "-Wl,--whole-archive", self.checkout / "target/staticlib/libads.a", "-Wl,--no-whole-archive",
+                         "-o", before / "libads.so.0")
+        for linked in (before, now):
+            self.run_quietly("gcc", "-Iinclude", ROOT / "tests/c/example.c", linked / "libads.so.0",
+                             "-o", self.folder / f"linked-{linked.name}")
+        for program in ("linked-before", "linked-lib"):
+            printed = self.run_quietly(self.folder / program, LD_LIBRARY_PATH=str(now)).stdout
+            self.assertIn("\n1 rows, clean\n", printed)
+        refused = self.run_quietly(self.folder / "linked-lib", check=False, LD_LIBRARY_PATH=str(before))
+        self.assertNotEqual(refused.returncode, 0)
+        self.assertIn("version `ADS_0.4' not found", refused.stderr)
 
     def test_names_of_the_shared_library(self) -> None:
-        """The functions of the header are visible under one version, and nothing else is."""
+        """The functions of the header are visible, ads_read under two versions, and nothing else is."""
         library = self.checkout / "target/lib/libads.so.0"
         listed = self.run_quietly("nm", "-D", "--defined-only", library).stdout.split("\n")
         visible = {line.split()[-1] for line in listed if line and line.split()[1] != "A"}
         declared = set(re.findall(r"^(?!static)\w+ (ads_\w+)\(", HEADER, re.MULTILINE))
-        self.assertEqual(visible, {f"{name}@@ADS_0.2" for name in declared})
+        named = {f"{name}@@ADS_0.2" for name in declared - {"ads_read"}}
+        self.assertEqual(visible, named | {"ads_read@@ADS_0.4", "ads_read@ADS_0.2"})
         self.assertEqual(len(declared), 21)
         dynamic = self.run_quietly("readelf", "-dlW", library).stdout
         self.assertIn("Library soname: [libads.so.0]", dynamic)

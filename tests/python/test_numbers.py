@@ -1,6 +1,6 @@
 """docs/numbers.tsv is the one list of numbers, names and words. Everything that repeats it is held equal to it here.
 
-The same holds for the version and the sizes, which include/ads.h has.
+The same holds for the version, the sizes and the endings, which include/ads.h has.
 """
 from __future__ import annotations
 
@@ -50,6 +50,13 @@ def snake(name: str) -> str:
     return re.sub(r"(?<=[a-z])(?=[A-Z])", "_", name).upper()
 
 
+def enums() -> list[list[tuple[str, int]]]:
+    """The enums of include/ads.h in order, names without ADS_: the numbers, the endings."""
+    bodies = re.findall(r"^enum \{\n(.*?)^\};", text("include/ads.h"), re.MULTILINE | re.DOTALL)
+    members = [re.findall(r"^    ADS_(\w+) = (\d+),? +/\*", body, re.MULTILINE) for body in bodies]
+    return [[(name, int(value)) for name, value in each] for each in members]
+
+
 class List(unittest.TestCase):
     def test_order(self) -> None:
         self.assertEqual(list(listed()), list(range(19)))
@@ -65,9 +72,8 @@ class List(unittest.TestCase):
 
 class Header(unittest.TestCase):
     def test_enum(self) -> None:
-        found = re.findall(r"^    ADS_(\w+) = (\d+),? +/\*", text("include/ads.h"), re.MULTILINE)
-        self.assertEqual([(int(number), name) for name, number in found],
-                         [(number, name) for number, (name, _) in listed().items()])
+        self.assertEqual(len(enums()), 2)
+        self.assertEqual(enums()[0], [(name, number) for number, (name, _) in listed().items()])
 
     def test_words_and_version(self) -> None:
         """Two translation units, one of them without ads_words."""
@@ -111,6 +117,25 @@ class Others(unittest.TestCase):
         found = re.findall(r"^pub const (\w+): u8 = (\d+);$", text("crates/metafile/src/refusals.rt"), re.MULTILINE)
         self.assertEqual([(int(number), NAMES_OF_METAFILE.get(name, name)) for name, number in found],
                          [(number, name) for number, (name, _) in refusals().items()])
+
+
+class Endings(unittest.TestCase):
+    def test_equal(self) -> None:
+        """Names and values in C, Rust, Python and the proved crate, words in Rust, Python and FORMAT."""
+        from ads_metafile import Ending
+
+        endings = enums()[1]
+        self.assertEqual(endings, [("COUNTED", 0), ("FOUND", 1), ("BY_MINI_CHUNKS", 2)])
+        self.assertEqual([(each.name, each.value) for each in Ending], endings)
+        rust = re.findall(r"^    (\w+) = (\d+),$", text("rust/src/answers.rs"), re.MULTILINE)
+        self.assertEqual([(snake(name), int(value)) for name, value in rust], endings)
+        metafile = re.findall(r"^pub const (\w+): u8 = (\d+);$", text("crates/metafile/src/endings.rt"), re.MULTILINE)
+        self.assertEqual([(name, int(value)) for name, value in metafile], endings)
+        words = re.findall(r'^            Ending::(\w+) => "(.*)",$', text("rust/src/answers.rs"), re.MULTILINE)
+        self.assertEqual([(snake(name), said) for name, said in words], [(each.name, str(each)) for each in Ending])
+        explained = re.findall(r"\*\*([a-z -]+)\*\* \((\d)\)", text("docs/FORMAT.md"))
+        self.assertEqual(sorted((int(value), said) for said, value in explained),
+                         [(each.value, str(each)) for each in Ending])
 
 
 class Sizes(unittest.TestCase):

@@ -14,7 +14,7 @@ import ads_metafile
 import listings
 from ads_metafile import Dependency, Parent, Refused, _rows
 
-ROW = (SAMPLE_SERIAL.encode(), 319, 568, 921, 3, 1178, 0, 80_350_000_000, False, True)
+ROW = (SAMPLE_SERIAL.encode(), 319, 568, 921, 3, 1178, 0, 80_350_000_000, False, True, 0)
 
 
 class Reading(unittest.TestCase):
@@ -120,10 +120,25 @@ class Rows(unittest.TestCase):
         end = self.file[0].end
         self.assertEqual(end, 327 + 568 + 34 + 5 + 254 + 8)
         self.assertEqual(row.record, (support.serial(43).encode(), end, 568 + 344, end + 912 + 34, 6,
-                                      end + 912 + 34 + 6 + 254 + 8, 1, 80_350_000_000, False, True))
+                                      end + 912 + 34 + 6 + 254 + 8, 1, 80_350_000_000, False, True, 0))
         self.assertEqual((row.serial, row.place, row.header, row.contents_place, row.bytes, row.end, row.dependencies,
-                          row.offset, row.multichunk, row.good), (row.record[0].decode(), *row.record[1:]))
+                          row.offset, row.multichunk, row.good, row.ending.value),
+                         (row.record[0].decode(), *row.record[1:]))
         self.assertEqual((row.sub_format, row.offset_counts), (support.SUB_FORMAT, True))
+
+    def test_endings(self) -> None:
+        """How the end was found: in the samples, and after an append as it was chosen."""
+        counted, found, by_minis = ads_metafile.Ending
+        with ads_metafile.open(REPOSITORY / "samples/survey.ads") as file:
+            self.assertEqual([row.ending for row in file], [counted, found, by_minis, counted])
+            self.assertEqual([str(row.ending) for row in file], ["counted", "found", "by mini-chunks", "counted"])
+            self.assertEqual([row.as_dict()["ending"] for row in file], [str(row.ending) for row in file])
+            self.assertEqual([record[10] for record in file.records()], [0, 1, 2, 0])
+        begun = support.made(strategy="NUL", mark=b"****")
+        for is_open, ending in ((True, found), (False, counted)):
+            appended = ads_metafile.append(begun, support.description(50), b"abc", open=is_open)
+            with ads_metafile.read(appended.data) as file:
+                self.assertIs(file[0].ending, ending)
 
     def test_as_dict(self) -> None:
         with ads_metafile.open(SAMPLE) as file:
@@ -131,7 +146,8 @@ class Rows(unittest.TestCase):
         self.assertEqual(json.dumps(given), '{"row": 0, "serial": "' + SAMPLE_SERIAL + '", "place": 319, '
                          '"header": 568, "contents": 921, "bytes": 3, "end": 1178, "dependencies": 0, '
                          '"offset": 80350000000, '
-                         '"multichunk": false, "good": true, "sub_format": "ADS\\\\DATA\\\\TEST"}')
+                         '"multichunk": false, "good": true, "sub_format": "ADS\\\\DATA\\\\TEST", '
+                         '"ending": "counted"}')
 
     def test_equality_and_repr(self) -> None:
         again = ads_metafile.read(bytes(self.file.data))

@@ -89,10 +89,10 @@ class Found(unittest.TestCase):
         self.assertEqual(self.answer(ADS_LIBRARY="", LD_LIBRARY_PATH=str(LIBRARY.parent)), "1 libads.so.0")
 
     def test_older(self) -> None:
-        older = self.library("void ads_read(void) {}", "ADS_0.1 { global: ads_*; local: *; };")
+        older = self.library("void ads_read(void) {}", "ADS_0.2 { global: ads_*; local: *; };")
         self.assertRegex(self.answer(ADS_LIBRARY=older),
-                         r"libother.so is an older libads.*needs version ADS_0\.2.*`make`")
-        part = self.library("void ads_read(void) {}", "ADS_0.2 { global: ads_*; local: *; };")
+                         r"libother.so is an older libads.*needs version ADS_0\.4.*`make`")
+        part = self.library("void ads_read(void) {}", "ADS_0.4 { global: ads_*; local: *; };")
         self.assertRegex(self.answer(ADS_LIBRARY=part), "libother.so is no whole libads: it has no ads_begin.*`make`")
         none = self.library("void other(void) {}", "OTHER { global: other; local: *; };")
         self.assertRegex(self.answer(ADS_LIBRARY=none), "libother.so is no libads.*`make`")
@@ -110,8 +110,9 @@ class Layout(unittest.TestCase):
         row = header[header.index("typedef struct ads_row {"):header.index("} ads_row;")]
         places = {name: int(place) for name, place in re.findall(r"^    \w+ (\w+)(?:\[38\])?; +/\* +(\d+):", row, re.M)}
         self.assertEqual({name: getattr(_library.Row, name).offset for name in _rows.FIELDS}, places)
-        whole = _library.Row(place=1, header=2, contents=3, bytes=4, end=5, dependencies=6, offset=-7, multichunk=True)
-        self.assertEqual(_rows.RECORD.unpack(bytes(whole)), (bytes(38), 1, 2, 3, 4, 5, 6, -7, True, False))
+        whole = _library.Row(place=1, header=2, contents=3, bytes=4, end=5, dependencies=6, offset=-7, multichunk=True,
+                             ending=2)
+        self.assertEqual(_rows.RECORD.unpack(bytes(whole)), (bytes(38), 1, 2, 3, 4, 5, 6, -7, True, False, 2))
 
     def test_every_function_of_the_header(self) -> None:
         header = re.sub(r"/\*.*?\*/", "", (REPOSITORY / "include" / "ads.h").read_text(), flags=re.S)

@@ -4,7 +4,7 @@
 --     layout-whole     there is no fault
 --     Placed, placed   a whole chunk: each number of its layout, inside the file
 --     parts-..         the parts of a whole chunk, as they are read without judging it
---     serial-is offset-.. row-is   what a row has beside them
+--     serial-is offset-.. line-inside count-read ending-.. row-is   what a row has beside them
 -- Assumes nothing.
 use Prim.Native.Nat.{ℕ, zero, suc, _+_, _-_, _≤_}
 use mathlib.Core.Bool.{Bool, true, false}
@@ -12,16 +12,17 @@ use mathlib.Core.Path.{_≡_, refl, sym, ap, _∙_}
 use mathlib.Core.List.{List}
 use native.Mathlib.Omega.{arith}
 use lib.ListN.{length, take, drop, length-drop}
+use lib.Seq.{drop-drop}
 use lib.Dec.{eqb}
 use lib.IntN.{ℤ, pos}
 use Rattle.metafile.specs.Bytes.{part, choose, same, sum}
 use Rattle.metafile.specs.Fields.{countValue, offsetValue}
 use Rattle.metafile.specs.Lines.{run}
 use Rattle.metafile.specs.Closing.{closing, closingEnd, closingSerial, sumPlace, sumGood}
-use Rattle.metafile.specs.Chunk.{head, synchType, standard, offsetBytes, dependencies, isMulti, headerBytes, chunkHeaderFault, contentsFault, contentsFrom, contentsLong, contentsPlace, contentsBytes, closingPlace, chunkEnd, serialOf, chunkFault, offsetUnder, rowAt}
-use Rattle.laws.proofs.First.{choose-go, choose-stop}
+use Rattle.metafile.specs.Chunk.{head, synchType, standard, offsetBytes, dependencies, isMulti, headerBytes, chunkHeaderFault, contentsFault, contentsFrom, contentsLong, contentsPlace, contentsBytes, closingPlace, chunkEnd, serialOf, chunkFault, contentCount, endingOf, chunkEnding, offsetUnder, rowAt}
+use Rattle.laws.proofs.First.{cases, choose-go, choose-stop}
 use Rattle.laws.proofs.Loops.{part-drop}
-use Rattle.chunk_laws.proofs.Contents.{contents-enough}
+use Rattle.chunk_laws.proofs.Contents.{contents-least, contents-enough}
 use Rattle.chunk_laws.proofs.Chunk.{whole, fits-head, fits-header, fits}
 use Rattle.chunk.specs.declared.parts.Layout.{Layout}
 use Rattle.multi.specs.declared.Part.{Part}
@@ -223,10 +224,37 @@ module _ (s : List ℕ) (b : Bool) (eb : b ≡ same (part 342 3 s) (wordNo 5)) w
     unfolding offsetUnder synchType standard offsetBytes wordNo
     offset-given t v e = rw (sym eb ∙ f, sym ed ∙ t) e
 
+-- ---- "counted, found, or by mini-chunks"
+
+-- either sort of contents is long enough for a content length line
+pub line-inside : (l : Layout) (m s : List ℕ) → Placed l m s → l .header + 34 ≤ length s
+unfolding contentsPlace contentsBytes
+line-inside l m s q =
+    omega (arith, q .header-is, q .contents-is, q .bytes-is, q .closed, q .inside, contents-least (isMulti s) m (drop (headerBytes s) s))
+
+pub count-read : (l : Layout) (m s : List ℕ) → Placed l m s → (n : ℕ) → n ≡ countValue (part (l .header + 21) 12 s) → n ≡ contentCount (drop (headerBytes s) s)
+unfolding contentCount
+count-read l m s q n e = rw (drop-drop 21 (headerBytes s) s, ← q .header-is) e
+
+-- mc says whether it is a MultiChunk, n is the content length
+module _ (s : List ℕ) (mc : Bool) (e : mc ≡ isMulti s) where
+  pub ending-minis : mc ≡ true → 2 ≡ chunkEnding s
+  unfolding chunkEnding endingOf
+  ending-minis t = rw (sym e ∙ t)
+
+  module _ (f : mc ≡ false) (n : ℕ) (en : n ≡ contentCount (drop (headerBytes s) s)) where
+    pub ending-found : n ≡ 0 → 1 ≡ chunkEnding s
+    unfolding chunkEnding endingOf
+    ending-found z = rw (sym e ∙ f, sym en ∙ z)
+
+    pub ending-counted : (n ≡ 0 → ⊥) → 0 ≡ chunkEnding s
+    unfolding chunkEnding endingOf
+    ending-counted z = cases n (λ q. absurd (z q)) (λ k q. rw (sym e ∙ f, sym en ∙ q))
+
 -- ---- the row
 
 row-of : (m s : List ℕ) (p h c b e d : ℕ) (mc : Bool) → h ≡ headerBytes s → c ≡ contentsPlace s → b ≡ contentsBytes m s → e ≡ chunkEnd m s → d ≡ dependencies s → mc ≡ isMulti s
-    → (v : List ℕ) (o : ℤ) (g : Bool) → v ≡ serialOf m s → o ≡ offsetUnder (synchType s) (standard s) (offsetBytes s) → g ≡ sumGood (closingPlace m s) m s
+    → (v : List ℕ) (o : ℤ) (g : Bool) (f : ℕ) → v ≡ serialOf m s → o ≡ offsetUnder (synchType s) (standard s) (offsetBytes s) → g ≡ sumGood (closingPlace m s) m s → f ≡ chunkEnding s
     → record {
       serial = v;
       place = p;
@@ -238,13 +266,14 @@ row-of : (m s : List ℕ) (p h c b e d : ℕ) (mc : Bool) → h ≡ headerBytes 
       offset = o;
       multichunk = mc;
       good = g;
+      ending = f;
     }
     ≡ rowAt m p s
 unfolding rowAt
-row-of m s p h c b e d mc eh ec eb ee ed em v o g ev eo eg = rw (eh, ec, eb, ee, ed, em, ev, eo, eg)
+row-of m s p h c b e d mc eh ec eb ee ed em v o g f ev eo eg ef = rw (eh, ec, eb, ee, ed, em, ev, eo, eg, ef)
 
 pub row-is : (m s : List ℕ) (p : ℕ) (l : Layout) → Placed l m s
-    → (v : List ℕ) (o : ℤ) (g : Bool) → v ≡ serialOf m s → o ≡ offsetUnder (synchType s) (standard s) (offsetBytes s) → g ≡ sumGood (closingPlace m s) m s
+    → (v : List ℕ) (o : ℤ) (g : Bool) (f : ℕ) → v ≡ serialOf m s → o ≡ offsetUnder (synchType s) (standard s) (offsetBytes s) → g ≡ sumGood (closingPlace m s) m s → f ≡ chunkEnding s
     → record {
       serial = v;
       place = p;
@@ -256,7 +285,8 @@ pub row-is : (m s : List ℕ) (p : ℕ) (l : Layout) → Placed l m s
       offset = o;
       multichunk = l .multichunk;
       good = g;
+      ending = f;
     }
     ≡ rowAt m p s
-row-is m s p l q v o g ev eo eg =
-    row-of m s p (l .header) (l .contents) (l .bytes) (l .end) (l .dependencies) (l .multichunk) (q .header-is) (q .contents-is) (q .bytes-is) (q .end-is) (q .dependencies-is) (q .multi-is) v o g ev eo eg
+row-is m s p l q v o g f ev eo eg ef =
+    row-of m s p (l .header) (l .contents) (l .bytes) (l .end) (l .dependencies) (l .multichunk) (q .header-is) (q .contents-is) (q .bytes-is) (q .end-is) (q .dependencies-is) (q .multi-is) v o g f ev eo eg ef

@@ -1,5 +1,5 @@
 -- The layout of a chunk: its first fault, or where its parts stand, counted from the chunk's first byte. It renders "A row
--- holds: .." without serial number, offset and sum, which a reading that only goes on to the next chunk doesn't need.
+-- holds: .." without serial number, offset, sum and ending, which a reading that only goes on to the next chunk doesn't need.
 -- Beside it stand the answers on contents: their first fault, or their bytes. Assumes nothing.
 use Prim.Native.Nat.{ℕ}
 use mathlib.Core.Bool.{Bool, false, not, _&&_}

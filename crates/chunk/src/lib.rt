@@ -6,7 +6,7 @@
 //     header     the header: lines, lengths, dependencies, specific data
 //     contents   the contents, those of a MultiChunk by the crate multi
 //     closing    mark, integrity data, mark; the test of their sum
-//     rows       serial number, offset and row of a whole chunk
+//     rows       serial number, offset, ending and row of a whole chunk
 // It rests on lines for the runs over the table of lines, on fields for values, on search and on sums.
 mod closing;
 mod contents;

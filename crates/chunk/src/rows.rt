@@ -1,15 +1,17 @@
-// The row of a whole chunk. Serial number, offset and sum are read here and nowhere else: whoever needs only the places
-// of a chunk calls layout alone, and no byte is summed. l is the layout of the chunk at the start of s.
+// The row of a whole chunk. Serial number, offset, ending and sum are read here and nowhere else: whoever needs only the
+// places of a chunk calls layout alone, and no byte is summed. l is the layout of the chunk at the start of s.
 ghost use mathlib.Core.Path.{_≡_};
 ghost use Prim.Native.Nat.{_+_, _<_, _^_};
 ghost use lib.ListN.{length};
 ghost use Rattle.metafile.specs.Lines.{run};
-ghost use Rattle.metafile.specs.Chunk.{head, synchType, standard, offsetBytes, serialOf, offsetUnder, rowAt};
+ghost use Rattle.metafile.specs.Chunk.{head, synchType, standard, offsetBytes, serialOf, chunkEnding, offsetUnder, rowAt};
 ghost use Rattle.chunk.specs.Layout.{WholeLayout};
 use crate::Layout;
 use crate::closing::sum_good;
+use crate::counts::count_at;
 use lines::words;
 use metafile::Row;
+use metafile::endings;
 use table::places;
 
 // The serial number in the closing.
@@ -35,6 +37,21 @@ fn offset(s: &[u8]) -> i64
     fields::offset_value(&s[places::TIME_OFFSET..places::TIME_OFFSET_END])
 }
 
+// How the end was found; where the content length is 0, by the mark.
+fn ending(s: &[u8], mark: &[u8], l: Layout) -> u8
+    requires { ⌜ WholeLayout l (now mark) (now s) ⌝ }
+    ensures { λ r. ⌜ r ≡ chunkEnding (now (s .entry)) ⌝ }
+{
+    if l.multichunk {
+        return endings::BY_MINI_CHUNKS;
+    }
+    let at = l.header + places::CONTENT_LENGTH;
+    if count_at(s, at, places::LENGTH) == 0 {
+        return endings::FOUND;
+    }
+    endings::COUNTED
+}
+
 // The row of a whole chunk that stands at the place p of the file.
 pub fn row(s: &[u8], p: usize, mark: &[u8], l: Layout) -> Row
     requires chunk { ⌜ WholeLayout l (now mark) (now s) ⌝ }
@@ -55,5 +72,6 @@ pub fn row(s: &[u8], p: usize, mark: &[u8], l: Layout) -> Row
         offset: offset(s),
         multichunk: l.multichunk,
         good: sum_good(s, closing, mark),
+        ending: ending(s, mark, l),
     }
 }

@@ -13,11 +13,11 @@ use lib.Seq.{take-append-le, drop-append-le}
 use Rattle.metafile.specs.Bytes.{part}
 use Rattle.metafile.specs.Fields.{countValue}
 use Rattle.metafile.specs.Closing.{sumPlace, closingEnd, closingSerial, sumGood}
-use Rattle.metafile.specs.Chunk.{head, headerLength, subFormat, synchType, standard, offsetBytes, dependencyBytes, dependencies, isMulti, specific, lengthsFault, dependencySerialOf, dependencySubFormatOf, specificPlace, headerBytes, contentsFrom, contentsLong, contentsPlace, contentsBytes, closingPlace, chunkEnd, serialOf, rowAt}
+use Rattle.metafile.specs.Chunk.{head, headerLength, subFormat, synchType, standard, offsetBytes, dependencyBytes, dependencies, isMulti, specific, lengthsFault, dependencySerialOf, dependencySubFormatOf, specificPlace, headerBytes, contentsFrom, contentsLong, contentsPlace, contentsBytes, closingPlace, chunkEnd, serialOf, contentCount, chunkEnding, rowAt}
 use Rattle.laws.proofs.Lists.{part-local}
 use Rattle.laws.proofs.Table.{run-enough, run-local}
 use Rattle.chunk_laws.proofs.Types.{stretch-local}
-use Rattle.chunk_laws.proofs.Contents.{contents-local, contentsLong-local}
+use Rattle.chunk_laws.proofs.Contents.{contents-least, contents-enough, contents-local, contentsLong-local}
 use Rattle.chunk_laws.proofs.Chunk.{Whole, fits-head, fits-dependencies, fits-place, fits-header, fits-contents, fits}
 
 module _ (llc : Bool) (m s t : List ℕ) (w : Whole llc m s) where
@@ -110,6 +110,18 @@ module _ (llc : Bool) (m s t : List ℕ) (w : Whole llc m s) where
         in-closing = rw closingPlace-local (stretch-local _ (closingPlace m s) s t (fits-contents llc m s w) (w .in-closing));
       }
 
+  -- the content length, which either sort of contents is long enough for
+  count-local : contentCount (drop (headerBytes (s ++ t)) (s ++ t)) ≡ contentCount (drop (headerBytes s) s)
+  unfolding contentCount
+  count-local =
+      let r : List ℕ = drop (headerBytes s) s in
+      rw (headerBytes-local, drop-append-le (headerBytes s) s t (fits-header llc m s w))
+      (ap countValue (part-local 21 12 r t (omega (arith, contents-least (isMulti s) m r, contents-enough (isMulti s) llc m r (w .in-contents)))))
+
+  ending-local : chunkEnding (s ++ t) ≡ chunkEnding s
+  unfolding chunkEnding
+  ending-local = rw (isMulti-local, count-local)
+
   pub rowAt-local : (p : ℕ) → rowAt m p (s ++ t) ≡ rowAt m p s
   unfolding rowAt synchType standard offsetBytes
   rowAt-local p =
@@ -125,6 +137,7 @@ module _ (llc : Bool) (m s t : List ℕ) (w : Whole llc m s) where
         in-head-local 426 16 (omega arith),
         isMulti-local,
         good-local,
+        ending-local,
       )
 
   -- dependency j, from 0, of those that the chunk has

@@ -10,6 +10,7 @@ use lib.IntN.{pos}
 use lib.ListN.{length, replicate}
 use Rattle.metafile.specs.declared.Row.{Row}
 use Rattle.metafile.specs.Bytes.{bytes}
+use Rattle.metafile.specs.Chunk.{byCount}
 use Rattle.metafile.specs.Calls.{read}
 use Rattle.examples.proofs.Texts.{titleText, headerLLC, testFormat, multiFormat, headText, plainHeader, chunkEmpty, chunkOther, multiText, typeText, texts}
 
@@ -27,6 +28,7 @@ lentRow =
       offset = pos 7;
       multichunk = true;
       good = true;
+      ending = 7;
     }
 
 -- ---- "1 first 65 bytes don't match": they are one field, so a file with fewer bytes is 4
@@ -174,6 +176,7 @@ emptyRow =
       offset = pos 80350000000;
       multichunk = false;
       good = true;
+      ending = byCount;
     }
 
 unfoldable pub file9 : List ℕ

@@ -8,6 +8,7 @@ use lib.IntN.{pos}
 use lib.ListN.{take}
 use Rattle.metafile.specs.declared.Row.{Row}
 use Rattle.metafile.specs.Bytes.{bytes}
+use Rattle.metafile.specs.Chunk.{byCount, byMark}
 use Rattle.metafile.specs.Reading.{reading}
 use Rattle.examples.proofs.Texts.{serial7, serial42, serial43, integrityText, titleText, headerABAB, testFormat, plainHeader, contentText, texts}
 
@@ -44,6 +45,7 @@ openRow =
       offset = pos 80350000000;
       multichunk = false;
       good = true;
+      ending = byMark;
     }
 
 pub marks-reading :
@@ -62,6 +64,7 @@ pub marks-reading :
             offset = pos 80350000000;
             multichunk = false;
             good = true;
+            ending = byCount;
           }
           ∷ [];
       stop = 2063;
@@ -110,6 +113,7 @@ pub sums-wrong :
             offset = pos 80350000000;
             multichunk = false;
             good = false;
+            ending = byCount;
           }
           ∷ [];
       stop = 1175;

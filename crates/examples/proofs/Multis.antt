@@ -6,6 +6,7 @@ use mathlib.Core.List.{List, [], _∷_, _++_}
 use lib.IntN.{pos}
 use lib.ListN.{length, replicate}
 use Rattle.metafile.specs.Bytes.{bytes}
+use Rattle.metafile.specs.Chunk.{byMiniChunks}
 use Rattle.metafile.specs.Reading.{reading}
 use Rattle.metafile.specs.Answers.{result, refused}
 use Rattle.metafile.specs.Calls.{contents, gather}
@@ -47,6 +48,7 @@ pub multi-reading :
             offset = pos 80350000000;
             multichunk = true;
             good = true;
+            ending = byMiniChunks;
           }
           ∷ [];
       stop = 2352;

@@ -9,6 +9,7 @@ use lib.IntN.{pos}
 use lib.ListN.{length, take, replicate}
 use Rattle.metafile.specs.declared.Row.{Row}
 use Rattle.metafile.specs.Bytes.{bytes}
+use Rattle.metafile.specs.Chunk.{byCount}
 use Rattle.metafile.specs.Reading.{readFile, reading}
 use Rattle.metafile.specs.Answers.{result, refused}
 use Rattle.metafile.specs.Append.{append}
@@ -60,7 +61,7 @@ unfolding texts paperFile
 paper-pieces = refl
 
 -- "A row holds: serial, place, header bytes, contents place .., contents bytes, end, dependency count, offset ..,
--- MultiChunk or not, sum good or not."
+-- MultiChunk or not, sum good or not", and how the end was found.
 unfoldable pub paperRow : Row
 paperRow =
     record {
@@ -74,6 +75,7 @@ paperRow =
       offset = pos 80350000000;
       multichunk = false;
       good = true;
+      ending = byCount;
     }
 
 -- "The answer is count, stop .., header sum good .., number.": with the 76 rows that are enough for 65,536 bytes
@@ -165,6 +167,7 @@ pub dependent-reading :
             offset = pos 80350000000;
             multichunk = false;
             good = true;
+            ending = byCount;
           }
           ∷ [];
       stop = 2381;

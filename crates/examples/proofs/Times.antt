@@ -7,6 +7,7 @@ use mathlib.Core.List.{List, [], _∷_, _++_}
 use lib.IntN.{pos, negℤ}
 use lib.ListN.{replicate}
 use Rattle.metafile.specs.Bytes.{bytes}
+use Rattle.metafile.specs.Chunk.{byCount}
 use Rattle.metafile.specs.Reading.{reading}
 use Rattle.metafile.specs.Answers.{result, refused}
 use Rattle.metafile.specs.Append.{Given, append}
@@ -56,6 +57,7 @@ pub times-reading :
             offset = pos 0;
             multichunk = false;
             good = true;
+            ending = byCount;
           }
           ∷ record {
             serial = bytes "#20240229123456789SURVEYDESK0100043002";
@@ -68,6 +70,7 @@ pub times-reading :
             offset = pos 0;
             multichunk = false;
             good = true;
+            ending = byCount;
           }
           ∷ record {
             serial = bytes "#20240229123456789SURVEYDESK0100044003";
@@ -80,6 +83,7 @@ pub times-reading :
             offset = negℤ (pos 36000000000000);
             multichunk = false;
             good = true;
+            ending = byCount;
           }
           ∷ [];
       stop = 2887;

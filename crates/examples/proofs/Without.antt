@@ -19,6 +19,7 @@ use Rattle.metafile.specs.declared.Row.{Row}
 use Rattle.metafile.specs.Bytes.{bytes, same, find}
 use Rattle.metafile.specs.Lines.{BIN}
 use Rattle.metafile.specs.Header.{isLLC, markOf}
+use Rattle.metafile.specs.Chunk.{byMark}
 use Rattle.metafile.specs.Reading.{reading, rowsOf}
 use Rattle.metafile.specs.Answers.{result, Test, refuse, firstRefusal, Outcome, placed, unlessRefused}
 use Rattle.metafile.specs.Append.{Given, noRow, newChunk, firstEnd, secondEnd, thirdEnd, appendTests, append}
@@ -112,6 +113,7 @@ pub left-reading :
             offset = pos 80350000000;
             multichunk = false;
             good = true;
+            ending = byMark;
           }
           ∷ [];
       stop = 2049;

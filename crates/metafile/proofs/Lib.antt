@@ -1,12 +1,14 @@
--- Samples    values that the joint proof and the examples are given
--- Computed   opens every definition, for proofs by computing
--- Cuts       demand 3 tried on two cuts
--- Joint      the starred cases of the paper, as one theorem
--- NoBytes    a file of no bytes
--- Given      a text that is given, and what append sees of it
+-- Samples       values that the joint proof and the examples are given
+-- Computed      opens every definition, for proofs by computing
+-- Cuts          demand 3 tried on two cuts
+-- Joint         the starred cases of the paper, as one theorem
+-- NoBytes       a file of no bytes
+-- ThreeEndings  how the end of a chunk was found
+-- Given         a text that is given, and what append sees of it
 pub mod Computed
 pub mod Samples
 pub mod Cuts
 pub mod Joint
 pub mod NoBytes
+pub mod ThreeEndings
 pub mod Given

@@ -92,6 +92,7 @@ noRow =
       offset = pos 0;
       multichunk = false;
       good = false;
+      ending = 0;
     }
 
 unfoldable pub rowNo : List Row → ℕ → Row

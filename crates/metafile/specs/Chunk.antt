@@ -165,6 +165,29 @@ chunkFault llc m s =
     ⊳ contentsFault (isMulti s) llc m (drop (headerBytes s) s)
     ⊳ run (closing m) (drop (closingPlace m s) s)
 
+-- ---- how the end was found
+
+-- "The row says it: counted, found, or by mini-chunks"
+abbrev pub byCount : ℕ
+byCount = 0
+
+abbrev pub byMark : ℕ
+byMark = 1
+
+abbrev pub byMiniChunks : ℕ
+byMiniChunks = 2
+
+-- of a MultiChunk (true), which has no content length, or of another chunk with this content length: "Under NUL 0 means
+-- open .. Otherwise the count rules"
+unfoldable pub endingOf : Bool → ℕ → ℕ
+endingOf true n = byMiniChunks
+endingOf false zero = byMark
+endingOf false (suc n) = byCount
+
+-- of the chunk s, whose content length stands behind its header
+unfoldable pub chunkEnding : List ℕ → ℕ
+chunkEnding s = endingOf (isMulti s) (contentCount (drop (headerBytes s) s))
+
 -- ---- the row
 
 -- "offset (0 under SPE or NUL standard)"
@@ -172,7 +195,7 @@ unfoldable pub offsetUnder : List ℕ → List ℕ → List ℕ → ℤ
 offsetUnder synch std v = cond (same synch SPE || same std NUL) (pos 0) (offsetValue v)
 
 -- "A row holds: serial, place, header bytes, contents place .., contents bytes, end, dependency count, offset ..,
--- MultiChunk or not, sum good or not." The chunk stands at the place p of the file.
+-- MultiChunk or not, sum good or not", and how the end was found. The chunk stands at the place p of the file.
 unfoldable pub rowAt : List ℕ → ℕ → List ℕ → Row
 rowAt m p s =
     record {
@@ -186,4 +209,5 @@ rowAt m p s =
       offset = offsetUnder (synchType s) (standard s) (offsetBytes s);
       multichunk = isMulti s;
       good = sumGood (closingPlace m s) m s;
+      ending = chunkEnding s;
     }

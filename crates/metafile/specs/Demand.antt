@@ -1,7 +1,7 @@
 -- Demand 3, as one proposition over the defined values of append, read and parent: what the reading gives after power
 -- fails in an accepted append. Cut.antt says what of the disk.
 use Prim.Native.Nat.{ℕ, zero, suc, _+_, _*_, _<_}
-use mathlib.Core.Bool.{Bool, true, false}
+use mathlib.Core.Bool.{Bool, true, false, cond}
 use mathlib.Core.Path.{_≡_}
 use mathlib.Core.Logic.{_⊎_}
 use mathlib.Core.List.{List, [], _∷_, _++_}
@@ -11,7 +11,7 @@ use Rattle.metafile.specs.Bytes.{part}
 use Rattle.metafile.specs.Fields.{digitsOf, padded}
 use Rattle.metafile.specs.Lines.{timeStandard, eventSynch}
 use Rattle.metafile.specs.Header.{markOf}
-use Rattle.metafile.specs.Chunk.{subFormat, generic, synchType, offsetBytes, dependencySerialOf, dependencySubFormatOf, headerLengthFor, dependencyLengthFor, headerBytesFor, offsetUnder}
+use Rattle.metafile.specs.Chunk.{subFormat, generic, synchType, offsetBytes, dependencySerialOf, dependencySubFormatOf, headerLengthFor, dependencyLengthFor, headerBytesFor, byCount, byMark, offsetUnder}
 use Rattle.metafile.specs.Reading.{reading, rowsOf}
 use Rattle.metafile.specs.Answers.{result, Outcome}
 use Rattle.metafile.specs.Append.{Given, subFormatGiven, stampGiven, integrityGiven, rowNo, subFormatOf, contentCountFor, append}
@@ -27,7 +27,8 @@ Accepted buffer len g e₁ e₂ e₃ = append buffer len g .answer ≡ result (e
 unfoldable pub finished : List ℕ → ℕ → Given → ℕ → List ℕ
 finished buffer len g e₃ = take e₃ (append buffer len g .buffer)
 
--- "The new chunk is as handed in when its row holds: .."
+-- "The new chunk is as handed in when its row holds: .." and how its end was found: "After an append it is the way the
+-- caller chose."
 unfoldable pub newRow : List ℕ → Given → ℕ → ℕ → Row
 newRow old g e₁ e₃ =
     record {
@@ -41,6 +42,7 @@ newRow old g e₁ e₃ =
       offset = offsetUnder (g .description .synch) (g .description .standard) (g .description .offset);
       multichunk = false;
       good = true;
+      ending = cond (g .isOpen) byMark byCount;
     }
 
 -- a line of the closing: w bytes at the distance d from the integrity data's first byte; c is where the closing begins

@@ -1,10 +1,12 @@
 // The types of a SEG-UKOOA ADS metafile 1.00 that the definitions in specs/ name: the row, the answers of the six
 // calls, and the description of a chunk to append, with its methods. specs/ says what each call gives.
 //     clean         whether a file is clean
+//     endings       how the end of a chunk was found
 //     fields_given  the description's methods
 //     refusals      the refusal numbers
 //     rows          the row of no chunk
 pub mod clean;
+pub mod endings;
 mod fields_given;
 pub mod refusals;
 mod rows;
@@ -32,6 +34,8 @@ pub struct Row {
     pub multichunk: bool,
     // sum good or not
     pub good: bool,
+    // how the end was found: one of endings
+    pub ending: u8,
 }
 
 // What begin answers: the number of bytes written.

@@ -18,6 +18,7 @@ impl Row {
             offset: 0,
             multichunk: false,
             good: false,
+            ending: 0,
         }
     }
 }

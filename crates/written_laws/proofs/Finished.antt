@@ -3,7 +3,7 @@
 --     finished-whole finished-end finished-serial finished-row
 -- Assumes nothing.
 use Prim.Native.Nat.{ℕ, _+_}
-use mathlib.Core.Bool.{Bool, true, false, not, _&&_}
+use mathlib.Core.Bool.{Bool, true, false, cond, not, _&&_}
 use mathlib.Core.Path.{_≡_, refl, sym, _∙_}
 use mathlib.Core.List.{List, [], _∷_, _++_}
 use native.Mathlib.Numerals.{add-one}
@@ -14,7 +14,7 @@ use Rattle.metafile.specs.Bytes.{isZero}
 use Rattle.metafile.specs.Lines.{free, value, lf, opened, linesOf, freeFault, kindFault, fault, run, contentLength}
 use Rattle.metafile.specs.Closing.{closingEnd, sumGood}
 use Rattle.metafile.specs.Header.{isLLC, markOf}
-use Rattle.metafile.specs.Chunk.{head, standard, dependencyFields, plainFault, contentsFault, closingPlace, chunkEnd, serialOf, rowAt}
+use Rattle.metafile.specs.Chunk.{head, standard, dependencyFields, plainFault, contentsFault, closingPlace, chunkEnd, serialOf, byCount, byMark, endingOf, chunkEnding, rowAt}
 use Rattle.metafile.specs.Reading.{rowsOf}
 use Rattle.metafile.specs.Append.{Given, stampGiven, integrityGiven, parentValues, headValues, contentCountFor, firstWrite, thirdWrite, firstEnd, secondEnd, thirdEnd}
 use Rattle.metafile.specs.Demand.{newRow}
@@ -34,6 +34,12 @@ unfolding contentCountFor isZero
 counted-not-zero llc true v h = rw (h refl)
 counted-not-zero true false v h = rw (add-one (length v))
 counted-not-zero false false v h = refl
+
+-- the way the caller chose
+chosen : (isOpen : Bool) (v : List ℕ) → endingOf false (contentCountFor isOpen v) ≡ cond isOpen byMark byCount
+unfolding contentCountFor endingOf
+chosen true v = refl
+chosen false v = rw (add-one (length v))
 
 free-run : (v t : List ℕ) → run (value (free (length v)) ∷ []) (v ++ t) ≡ 0
 unfolding run fault kindFault freeFault
@@ -95,6 +101,10 @@ module _ (old : List ℕ) (g : Given) (a : Taken old g) where
   standard-is =
       sym (take-take 3 41 (drop 366 (chunkBytes old g)) (omega arith)) ∙ rw (standard-at old g a) (take-at (g .description .standard) _ 3 (standard-three old g a))
 
+  finished-ending : chunkEnding (chunkBytes old g) ≡ cond (g .isOpen) byMark byCount
+  unfolding chunkEnding
+  finished-ending = rw (isMulti-is old g a, at-tail old g a, contentCount-is old g a) (chosen (g .isOpen) (g .contents))
+
   pub finished-row : rowAt (markOf old) (length old) (chunkBytes old g) ≡ newRow old g (firstEnd old g) (thirdEnd old g)
   unfolding rowAt newRow firstEnd secondEnd thirdEnd
   finished-row =
@@ -112,4 +122,5 @@ module _ (old : List ℕ) (g : Given) (a : Taken old g) where
         offset-at old g a,
         isMulti-is old g a,
         finished-good,
+        finished-ending,
       )

@@ -7,13 +7,14 @@ from itertools import islice
 from typing import Any
 
 from .. import File, Refused
+from .._rows import ENDING_WORDS
 from ..disk import DiskError
 from .output import DONE, REFUSED, Earned, exact, flush, put, put_lines, put_message, report, shown
 from .reading import Given, Numbered, SubFormats, take
 from .table import put_table
 
 COLUMNS = ("row", "serial", "place", "header", "contents", "bytes", "end", "dependencies", "offset", "multichunk",
-           "good", "sub_format")
+           "good", "sub_format", "ending")
 ABOUT = ("file", "bytes", "strategy", "mark", "header_good", "count", "stop", "number", "words", "clean",
          "being_written")
 TSV_ESCAPES = str.maketrans({"\\": "\\\\", "\t": "\\t", "\n": "\\n", "\r": "\\r"})
@@ -59,9 +60,9 @@ def chosen(file: File, options: Namespace) -> Iterator[Numbered]:
 def cells(file: File, rows: Iterator[Numbered]) -> Iterator[tuple[Any, ...]]:
     """The values of COLUMNS, numbers as they are."""
     sub_format = SubFormats(file.data)
-    for row, (serial, place, header, contents, size, end, dependencies, offset, multichunk, good) in rows:
+    for row, (serial, place, header, contents, size, end, dependencies, offset, multichunk, good, ending) in rows:
         yield (row, serial.decode("ascii"), place, header, contents, size, end, dependencies, offset, WORDS[multichunk],
-               WORDS[good], sub_format(place))
+               WORDS[good], sub_format(place), ENDING_WORDS[ending])
 
 
 def put_tsv(given: Given, rows: Iterator[Numbered], number: int, several: bool) -> None:
@@ -102,7 +103,7 @@ def put_json(given: Given, rows: Iterator[Numbered], number: int, several: bool)
     text = json.dumps
     put(text(about(given))[:-1] + ', "rows": [')
     form = ", ".join(f'"{name}": %s' for name in COLUMNS)
-    put_lines(f"{', ' if place else ''}{{{form % (row[0], text(row[1]), *row[2:11], text(row[11]))}}}"
+    put_lines(f"{', ' if place else ''}{{{form % (row[0], text(row[1]), *row[2:11], text(row[11]), text(row[12]))}}}"
               for place, row in enumerate(cells(given.file, rows)))
     put("]}\n")
 

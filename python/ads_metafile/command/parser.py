@@ -64,7 +64,8 @@ def add_reading(add: Callable[..., ArgumentParser]) -> None:
     made = add("list", listing.run, "show every chunk of a file",
                "Shows every row of a file's table, then whether the file is clean. A file that isn't clean is shown up "
                "to where its reading stops, and the status is 1. A bad sum is shown and doesn't change the status. The "
-               "offset is shown in seconds, or as a dash where it doesn't count.",
+               "offset is shown in seconds, or as a dash where it doesn't count; ending says how the end of the chunk "
+               "was found: counted, found by the mark, or by mini-chunks.",
                "  ads list survey.ads\n  ads list --format tsv --rows 100:200 survey.ads")
     made.add_argument("file", nargs="+", metavar="FILE", help="metafile")
     made.add_argument("--format", choices=("table", "tsv", "csv", "json"), default="table",

@@ -45,7 +45,7 @@ def take(name: str) -> Given:
     return Given(name, read(taken.data), taken.being_written)
 
 
-def ending(file: File) -> str:
+def outcome(file: File) -> str:
     """'clean: all .. bytes read', or where the reading stops and why."""
     if file.clean:
         return f"clean: all {counted(file.length, 'byte')} read"

@@ -7,11 +7,12 @@ from __future__ import annotations
 from collections.abc import Iterable, Iterator
 
 from .. import File
-from .._rows import Record, offset_counts_at
+from .._rows import ENDING_WORDS, Record, offset_counts_at
 from .output import counted, put, put_lines, shown
-from .reading import Given, Numbered, SubFormats, bad_rows, ending
+from .reading import Given, Numbered, SubFormats, bad_rows, outcome
 
-HEADINGS = ("row", "place", "header", "contents", "bytes", "end", "deps", "offset s", "sum", "serial", "sub-format")
+HEADINGS = ("row", "place", "header", "contents", "bytes", "end", "deps", "offset s", "sum", "ending", "serial",
+            "sub-format")
 SECOND = 10**10
 
 
@@ -23,17 +24,17 @@ def put_table(given: Given, rows: Iterator[Numbered], number: int, several: bool
         put_rows(file, rows)
     bad = len(bad_rows(file))
     sums = f", {bad:,} with {'a bad sum' if bad == 1 else 'bad sums'}" if bad else ""
-    put(f"{counted(len(file), 'chunk')}{sums}; {ending(file)}\n")
+    put(f"{counted(len(file), 'chunk')}{sums}; {outcome(file)}\n")
 
 
 def put_rows(file: File, rows: Iterator[Numbered]) -> None:
     data, form, sub_format = file.data, line_form(file), SubFormats(file.data)
 
     def line(row: int, record: Record) -> str:
-        serial, place, header, contents, size, end, dependencies, offset, _, good = record
+        serial, place, header, contents, size, end, dependencies, offset, _, good, ending = record
         seconds = in_seconds(offset) if offset_counts_at(data, place) else "-"
         return form.format(row, place, header, contents, f"{size:,}", end, dependencies, seconds,
-                           "good" if good else "BAD", serial.decode("ascii"), sub_format(place))
+                           "good" if good else "BAD", ENDING_WORDS[ending], serial.decode("ascii"), sub_format(place))
 
     put(form.format(*HEADINGS))
     put_lines(line(row, record) for row, record in rows)
@@ -55,7 +56,7 @@ def line_form(file: File) -> str:
     header, offset = widest(file.records())
     row, place, size = len(str(len(file) - 1)), len(str(file.length)), len(f"{file.length:,}")
     columns = (f">{max(3, row)}", f"<{max(5, place)}", f"<{max(6, header)}", f"<{max(8, place)}", f">{max(5, size)}",
-               f"<{max(3, place)}", ">5", f"<{max(12, offset)}", "<4", "<38", "")
+               f"<{max(3, place)}", ">5", f"<{max(12, offset)}", "<4", "<14", "<38", "")
     return "  ".join("{:" + column + "}" for column in columns) + "\n"
 
 

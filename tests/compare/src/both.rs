@@ -3,7 +3,7 @@
 use std::fmt::{self, Debug, Formatter};
 use std::hint::black_box;
 
-use plain::{Beginning, Ends, Parent, Reading, Row};
+use plain::{Beginning, Ending, Ends, Parent, Reading, Row};
 
 use crate::describe::Described;
 use crate::ffi::{self, Table};
@@ -76,6 +76,7 @@ impl Run {
         self.same(|| format!("read into {room} rows"), proved, plain, file, plain.stop);
         for (number, row) in rows[..plain.count].iter().enumerate() {
             self.same(|| format!("row {number}"), table.row(number), *row, file, row.place);
+            self.tally.note_row(row.ending);
         }
         self.demand(table.untouched_from(plain.count), "proved: a row past the count is written", file, plain.stop);
         self.demand(
@@ -262,4 +263,5 @@ const BLANK: Row = Row {
     offset: -6,
     multichunk: true,
     good: true,
+    ending: Ending::ByMiniChunks,
 };

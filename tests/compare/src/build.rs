@@ -1,7 +1,7 @@
 //! Files built field by field. Where each field stands and of what kind it is is kept, so that it can be damaged, and the
 //! rows that a right reading gives are kept beside the bytes.
 
-use plain::{Row, Serial};
+use plain::{Ending, Row, Serial};
 
 #[derive(Clone, Copy, Debug, PartialEq, Eq)]
 pub enum Kind {
@@ -181,10 +181,9 @@ impl File {
             self.line("Dependency_SubFormatID=", Kind::Text, &filled(sub_format, 256));
         }
         self.field(Kind::Free, &chunk.specific);
-        let (contents, multichunk) = self.contents(&chunk.contents);
+        let (contents, ending) = self.contents(&chunk.contents);
         let end = self.bytes.len();
-        let open = matches!(chunk.contents, Contents::Open(_));
-        let mark = if open { Kind::OpenMark } else { Kind::Mark };
+        let mark = if ending == Ending::Found { Kind::OpenMark } else { Kind::Mark };
         let good = self.closing(place, mark, &chunk.closing, Kind::OwnSerial);
         let counts = chunk.times.synch == *b"GEN" && chunk.times.standard != *b"NUL";
         self.rows.push(Row {
@@ -196,23 +195,24 @@ impl File {
             end: self.bytes.len(),
             dependencies: n,
             offset: if counts { chunk.times.value } else { 0 },
-            multichunk,
+            multichunk: ending == Ending::ByMiniChunks,
             good,
+            ending,
         });
         self.sub_formats.push(chunk.sub_format.clone());
     }
 
-    /// Answers the contents place and whether a MultiChunk.
-    fn contents(&mut self, contents: &Contents) -> (usize, bool) {
-        let (count, data) = match contents {
-            Contents::Counted(data) => (data.len() + 1, data),
-            Contents::Open(data) => (0, data),
-            Contents::Multi(types, minis) => return (self.multi(types, minis), true),
+    /// Answers the contents place and how their end is to be found.
+    fn contents(&mut self, contents: &Contents) -> (usize, Ending) {
+        let (count, data, ending) = match contents {
+            Contents::Counted(data) => (data.len() + 1, data, Ending::Counted),
+            Contents::Open(data) => (0, data, Ending::Found),
+            Contents::Multi(types, minis) => return (self.multi(types, minis), Ending::ByMiniChunks),
         };
         self.length("Chunk_Content_Length=", Kind::ContentLength, count);
         let place = self.bytes.len();
         self.field(Kind::Data, data);
-        (place, false)
+        (place, ending)
     }
 
     fn multi(&mut self, types: &[Type], minis: &[(usize, Vec<u8>)]) -> usize {

@@ -3,9 +3,10 @@
 //! A safe function passes the pointer and length of a slice. The functions of `claimed` pass a length of their own
 //! beside a pointer; the library is to refuse it (11) before it looks at a byte.
 
+use std::mem::offset_of;
 use std::sync::OnceLock;
 
-use plain::{Beginning, Serial};
+use plain::{Beginning, Ending, Serial};
 
 /// One row of the table, 104 bytes.
 #[repr(C)]
@@ -21,6 +22,7 @@ pub struct Row {
     pub offset: i64,
     pub multichunk: bool,
     pub good: bool,
+    pub ending: u8,
 }
 
 #[repr(C)]
@@ -90,7 +92,10 @@ pub struct Description {
     pub writer: Text<32>,
 }
 
-const _: () = assert!(size_of::<Row>() == 104);
+const _: () = assert!(size_of::<Row>() == 104 && offset_of!(Row, ending) == 98);
+
+/// ADS_COUNTED, ADS_FOUND, ADS_BY_MINI_CHUNKS
+const ENDINGS: [Ending; 3] = [Ending::Counted, Ending::Found, Ending::ByMiniChunks];
 
 #[rustfmt::skip]
 mod c {
@@ -152,7 +157,7 @@ impl Table {
         for (at, byte) in serial.iter_mut().enumerate() {
             *byte = memory[at / 8].to_le_bytes()[at % 8];
         }
-        assert!(flags[0] <= 1 && flags[1] <= 1, "a flag is {flags:?}");
+        assert!(flags[0] <= 1 && flags[1] <= 1 && flags[2] <= 2, "flags and ending are {flags:?}");
         plain::Row {
             serial,
             place: memory[5] as usize,
@@ -164,6 +169,7 @@ impl Table {
             offset: memory[11] as i64,
             multichunk: flags[0] == 1,
             good: flags[1] == 1,
+            ending: ENDINGS[usize::from(flags[2])],
         }
     }
 

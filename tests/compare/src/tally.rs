@@ -1,4 +1,6 @@
-//! How often each number of each call arose.
+//! How often each number of each call arose, and each ending of a row.
+
+use plain::Ending;
 
 #[derive(Clone, Copy, Debug)]
 pub enum Call {
@@ -25,11 +27,17 @@ const CALLS: [(&str, &[u8]); 7] = [
 #[derive(Default)]
 pub struct Tally {
     times: [[u64; 19]; 7],
+    endings: [u64; 3],
 }
 
 impl Tally {
     pub fn note(&mut self, call: Call, number: u8) {
         self.times[call as usize][usize::from(number)] += 1;
+    }
+
+    /// A row that both read alike.
+    pub fn note_row(&mut self, ending: Ending) {
+        self.endings[ending as usize] += 1;
     }
 
     pub fn total(&self) -> u64 {
@@ -54,9 +62,11 @@ impl Tally {
             print!("{:>10}", times.iter().sum::<u64>());
         }
         println!("{:>10}", self.total());
+        let [counted, found, by_mini_chunks] = self.endings;
+        println!("rows: {counted} counted, {found} found, {by_mini_chunks} by mini-chunks");
     }
 
-    /// Each number that a call can give arose, and no other; with 1 to 18 each one arose somewhere.
+    /// Each number that a call can give arose, and no other; with 1 to 18 each one arose somewhere. So did each ending.
     pub fn check(&self) {
         for ((name, can), times) in CALLS.iter().zip(&self.times) {
             for (number, &times) in times.iter().enumerate() {
@@ -67,6 +77,7 @@ impl Tally {
         for number in 1..=18 {
             assert!(self.times.iter().any(|times| times[number] > 0), "no call gave number {number}");
         }
+        assert!(self.endings.iter().all(|&rows| rows > 0), "an ending is missing: {:?}", self.endings);
         assert!(self.total() >= 200_000, "{} calls are too few", self.total());
     }
 }

@@ -10,6 +10,14 @@ use crate::number::{LENGTH, SHORT};
 pub const HEADER_BYTES: usize = 568;
 pub const DEPENDENCY_BYTES: usize = 344;
 
+/// "The row says it: counted, found, or by mini-chunks".
+#[derive(Clone, Copy, Debug, PartialEq, Eq)]
+pub enum Ending {
+    Counted,
+    Found,
+    ByMiniChunks,
+}
+
 /// A whole chunk of a file: where it stands and what its row holds, but for the sum.
 pub struct Chunk<'a> {
     pub serial: &'a Serial,
@@ -22,6 +30,7 @@ pub struct Chunk<'a> {
     pub dependencies: usize,
     pub offset: i64,
     pub multichunk: bool,
+    pub ending: Ending,
     stated_sum: u8,
 }
 
@@ -37,9 +46,9 @@ impl<'a> Chunk<'a> {
         let mut fields = Fields::new(file, place);
         let header = chunk_header(&mut fields)?;
         let header_end = fields.at();
-        let (contents, end) = if header.multichunk {
+        let (contents, end, ending) = if header.multichunk {
             multi::read(&mut fields, |_, _| ())?;
-            (header_end, fields.at())
+            (header_end, fields.at(), Ending::ByMiniChunks)
         } else {
             data(&mut fields, head)?
         };
@@ -58,6 +67,7 @@ impl<'a> Chunk<'a> {
             dependencies: header.dependencies,
             offset: header.offset,
             multichunk: header.multichunk,
+            ending,
             stated_sum: integrity.stated_sum,
         })
     }
@@ -136,20 +146,20 @@ fn word_and_serial<'a>(fields: &mut Fields<'a>, listed: &[&[u8; 3]]) -> Result<&
 
 /// "Contents: "Chunk_Content_Length=", I12, LF, data. The count is the data's length plus 1. Under LLC 0 is refused (7).
 /// Under NUL 0 means open: the data end at the first place where the mark occurs. Otherwise the count rules and the mark
-/// isn't searched for." Answers where the data start and end.
-fn data(fields: &mut Fields, head: &Header) -> Result<(usize, usize), u8> {
+/// isn't searched for." Answers where the data start and end, and how their end was found.
+fn data(fields: &mut Fields, head: &Header) -> Result<(usize, usize, Ending), u8> {
     let count = fields.length(b"Chunk_Content_Length=")?;
     if count == 0 && !head.nul {
         return Err(LENGTH);
     }
     fields.lf()?;
     let start = fields.at();
-    let length = match count.checked_sub(1) {
-        Some(length) => length,
-        None => find(fields.rest(), head.mark).ok_or(SHORT)?,
+    let (length, ending) = match count.checked_sub(1) {
+        Some(length) => (length, Ending::Counted),
+        None => (find(fields.rest(), head.mark).ok_or(SHORT)?, Ending::Found),
     };
     fields.take(length)?;
-    Ok((start, fields.at()))
+    Ok((start, fields.at(), ending))
 }
 
 /// The first place where a mark of at least one byte occurs.

@@ -32,6 +32,7 @@ mod writer;
 
 pub use append::{append, Ends};
 pub use begin::{begin, Beginning};
+pub use chunk::Ending;
 pub use description::Description;
 pub use field::Serial;
 pub use listing::listing;

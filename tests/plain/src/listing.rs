@@ -2,6 +2,7 @@
 
 use std::fmt::Write;
 
+use crate::chunk::Ending;
 use crate::number::{over_limit, LIMIT, ROOM};
 use crate::reading::{read, Row};
 
@@ -58,4 +59,5 @@ const BLANK: Row = Row {
     offset: 0,
     multichunk: false,
     good: false,
+    ending: Ending::Counted,
 };

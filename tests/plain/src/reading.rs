@@ -2,13 +2,14 @@
 
 use std::collections::HashSet;
 
-use crate::chunk::Chunk;
+use crate::chunk::{Chunk, Ending};
 use crate::field::Serial;
 use crate::header::Header;
 use crate::number::{over_limit, FULL, LIMIT, REPEATED};
 
 /// "A row holds: serial, place, header bytes, contents place (after the content length line; for a MultiChunk, its first
 /// line), contents bytes, end, dependency count, offset (0 under SPE or NUL standard), MultiChunk or not, sum good or not."
+/// And how the end was found.
 #[derive(Clone, Copy, Debug, PartialEq, Eq)]
 pub struct Row {
     pub serial: Serial,
@@ -21,6 +22,7 @@ pub struct Row {
     pub offset: i64,
     pub multichunk: bool,
     pub good: bool,
+    pub ending: Ending,
 }
 
 /// "The answer is count, stop [..], header sum good [..], number."
@@ -115,6 +117,7 @@ pub fn read(file: &[u8], rows: &mut [Row]) -> Reading {
                     offset: chunk.offset,
                     multichunk: chunk.multichunk,
                     good: chunk.sum_good(file, mark),
+                    ending: chunk.ending,
                 };
                 reading.count += 1;
                 reading.stop = chunk.end;

@@ -303,7 +303,8 @@ fn accepted(run: &mut Run, case: &Case) {
     let row = rows[count];
     let places = (row.place, row.header, row.contents, row.bytes, row.end);
     let right = (length, first - length - 34, first, given.data.len(), right.third);
-    let flags = row.good && !row.multichunk && row.dependencies == given.parents.len();
+    let chosen = if given.open { plain::Ending::Found } else { plain::Ending::Counted };
+    let flags = row.good && !row.multichunk && row.ending == chosen && row.dependencies == given.parents.len();
     run.demand(places == right && flags, &format!("{row:?}, not {right:?}"), finished, length);
     run.demand(
         finished[first - 34 - given.specific.len()..first - 34] == given.specific,

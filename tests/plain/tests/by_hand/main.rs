@@ -4,7 +4,7 @@ mod calls;
 mod fields;
 mod reading;
 
-use plain::{read, Reading, Row, Serial};
+use plain::{read, Ending, Reading, Row, Serial};
 
 /// "#20240229123456789SURVEYDESK01", a random number and the check.
 pub fn serial(random: u32) -> Serial {
@@ -104,6 +104,7 @@ pub const BLANK: Row = Row {
     offset: 7,
     multichunk: true,
     good: true,
+    ending: Ending::ByMiniChunks,
 };
 
 /// Count, stop, whether the header's sum is good, number; and the table.

@@ -1,4 +1,5 @@
 use crate::{chunk, header, multi, reading, serial, with};
+use plain::Ending::{self, ByMiniChunks, Counted, Found};
 
 /// The listing's file: LLC000 with one chunk of 3 bytes.
 fn sample() -> Vec<u8> {
@@ -31,7 +32,7 @@ fn row_of_a_chunk() {
     let row = rows[0];
     assert_eq!((row.place, row.header, row.contents, row.bytes, row.end), (319, 568, 921, 3, 1178));
     assert_eq!((row.serial, row.dependencies, row.offset), (serial(42), 0, 80_350_000_000));
-    assert_eq!((row.multichunk, row.good), (false, true));
+    assert_eq!((row.multichunk, row.good, row.ending), (false, true, Counted));
 }
 
 /// "Begun file: 319 bytes with no mark, 499 with 90." "Empty contents, LLC000: count 1, chunk 856 bytes."
@@ -165,6 +166,32 @@ fn open_and_counted() {
     assert_eq!((number(&counted), reading(&counted, 1).1[0].bytes), (0, 8));
     // the mark isn't there
     assert_eq!(number(&open(b"QA")[..327 + 602 + 5]), 4);
+}
+
+/// "Desks reading a NUL file can't see from a row whether its length was counted or came from the mark. The row says it:
+/// counted, found, or by mini-chunks".
+#[test]
+fn endings() {
+    let mark = b"ABAB";
+    let under = |start: Vec<u8>, body: Vec<u8>| [start, body].concat();
+    let ending = |file: &[u8]| -> Ending {
+        let (answer, rows) = reading(file, 1);
+        assert_eq!((answer.0, answer.3), (1, 0));
+        rows[0].ending
+    };
+    for (count, data, right) in
+        [(0, &b"QA"[..], Found), (3, b"QA", Counted), (0, b"", Found), (1, b"", Counted), (9, b"ABABABAB", Counted)]
+    {
+        assert_eq!(ending(&under(header("NUL", mark), chunk(mark, 42, count, data))), right, "{count} {data:?}");
+    }
+    // under LLC the mark is there too, and no count of 0
+    assert_eq!(ending(&under(header("LLC", mark), chunk(mark, 42, 3, b"QA"))), Counted);
+    assert_eq!(reading(&under(header("LLC", mark), chunk(mark, 42, 0, b"QA")), 1).0 .3, 7);
+    assert_eq!(ending(&under(header("LLC", b""), multi(42, &["P1"], 0, &[("P1", "x")]))), ByMiniChunks);
+    // a bad sum changes nothing
+    let bad = with(&under(header("NUL", mark), chunk(mark, 42, 0, b"QA")), "QAABAB", "QCABAB");
+    assert!(!reading(&bad, 1).1[0].good);
+    assert_eq!(ending(&bad), Found);
 }
 
 #[test]

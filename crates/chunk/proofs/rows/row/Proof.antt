@@ -29,14 +29,17 @@ offset-requires c κs = known (c .before .before .before .before .before .before
 sum-good-requires : tie.Need-sum-good-requires
 sum-good-requires c κs = let k = known (c .before .before .before .before .before .before .before) in omega arith
 
+ending-requires : tie.Need-ending-requires
+ending-requires c κs = search needs
+
 returns : tie.Need-returns
 returns c =
-    let a = c .before .before .before .before .before .before .before .before .args in
-    let k = known (c .before .before .before .before .before .before .before .before) in
-    row-is (a .mark .now) (a .s .now) (a .p) (a .l) k _ _ _ (c .before .before .chunk-serial .ensures)
-    (toZ-ofZ (record { sfits = c .before .offset .ok }) ∙ c .before .offset .ensures) (rw (k .closing-is) at (c .sum-good .ensures))
+    let a = c .before .before .before .before .before .before .before .before .before .args in
+    let k = known (c .before .before .before .before .before .before .before .before .before) in
+    row-is (a .mark .now) (a .s .now) (a .p) (a .l) k _ _ _ _ (c .before .before .before .chunk-serial .ensures)
+    (toZ-ofZ (record { sfits = c .before .before .offset .ok }) ∙ c .before .before .offset .ensures) (rw (k .closing-is) at (c .before .sum-good .ensures)) (c .ending .ensures)
 
 pub row-spec : {M : Type 1} → statement M
 row-spec =
     tie.close
-    (tie.spec add-contents add-end add-closing chunk-serial-requires offset-requires sum-good-requires returns)
+    (tie.spec add-contents add-end add-closing chunk-serial-requires offset-requires sum-good-requires ending-requires returns)
