@@ -23,12 +23,14 @@ extern "C" {
 #endif
 
 /* The version of this header and of its library; the number is major * 1000000 + minor * 1000 + patch. */
-#define ADS_VERSION "0.4.0"
-#define ADS_VERSION_NUMBER 4000
+#define ADS_VERSION "0.5.0"
+#define ADS_VERSION_NUMBER 5000
 
 /* ---- sizes */
 
 #define ADS_SERIAL_BYTES 38       /* bytes of a serial number */
+#define ADS_SERIAL_COMPARED 35    /* bytes by which two are compared: all but the check, which may be written in several
+                                     ways */
 #define ADS_MOST_BYTES (1 << 30)  /* bytes of the longest file, and of the longest buffer, that a call takes */
 #define ADS_MOST_MARK 999         /* bytes of the longest mark */
 #define ADS_MOST_PARENTS 16       /* parents that one append takes */
@@ -51,17 +53,19 @@ extern "C" {
 /* 1 to 9 are faults of the bytes at ads_read's stop, and of what ads_begin and ads_append were given. */
 enum {
     ADS_OK = 0,             /* every call: no refusal */
-    ADS_TITLE = 1,          /* read: the first 65 bytes don't match */
-    ADS_TAPE = 2,           /* read, begin: NUL with a mark of no bytes, the tape form */
+    ADS_TITLE = 1,          /* read: the first 65 bytes don't match; the mark length is out of form */
+    ADS_TAPE = 2,           /* read, begin: NUL with a mark of no bytes, the tape form; read: however the 0 is written */
     ADS_MARK_MINI = 3,      /* read, begin: the mark begins "MiniChunk=" */
     ADS_CUT = 4,            /* read: the bytes end too soon, but for a file of no bytes, which reads with 0; the mark of
                                an open chunk isn't found */
     ADS_DIFFERS = 5,        /* read: a label, LF, mark or listed word differs */
-    ADS_FORM = 6,           /* read, begin, append: a field is out of form or range; begin, append: also a wrong listed
-                               word, an over-long text or a mark over 999 bytes */
+    ADS_FORM = 6,           /* read, begin, append: a field is out of form or range. A length, a count or a check may have
+                               spaces in front of at least one digit. begin, append: also a wrong listed word, an
+                               over-long text or a mark over 999 bytes */
     ADS_LENGTH = 7,         /* read: a length disagrees with what it measures, or the type count is outside 1 to 64 */
     ADS_SHORT_ID = 8,       /* read: a short ID is there twice or undeclared, or there is no mini-chunk */
-    ADS_REPEATED = 9,       /* read: a whole chunk's serial number is already in a row; append: the one given is */
+    ADS_REPEATED = 9,       /* read: a whole chunk's serial number is already in a row; append: the one given is. Two are
+                               the same if their first 35 bytes are */
     ADS_ROWS_FULL = 10,     /* read: another whole chunk with a new serial number, and no row left */
     ADS_LIMIT = 11,         /* every call: a lent byte buffer over 2^30, or append's length over the buffer's */
     ADS_NOT_CLEAN = 12,     /* append: the file has no bytes, or doesn't read to its end with number 0 */
@@ -112,7 +116,7 @@ enum {
 
 /* One chunk of the table. The numbers beside the fields are their places in the struct. */
 typedef struct ads_row {
-    uint8_t serial[38];  /*  0: serial number */
+    uint8_t serial[38];  /*  0: serial number, as it stands; compare ADS_SERIAL_COMPARED bytes of it */
     size_t place;        /* 40: where the chunk begins */
     size_t header;       /* 48: bytes of its header */
     size_t contents;     /* 56: contents place, after the content length line; for a MultiChunk, its first line */

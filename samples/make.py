@@ -62,6 +62,15 @@ def survey() -> bytes:
             + plain(MARK, FOURTH, bytes(range(16)) + MARK + bytes(8), bins))
 
 
+def padded() -> bytes:
+    """What an older recorder wrote: spaces for all zeros in front of lengths, counts and checks."""
+    first, second = serial("00042", fill=" "), serial("00043", fill=" ")
+    return (header("NUL", b"****", fill=" ")
+            + plain(b"****", first, b"line 7 begun\n", head(fill=" "), is_open=True, fill=" ")
+            + multi(b"****", second, [DEPTH], [("P2/91", b"12345"), ("P2/91", b"")],
+                    [Dependency(FIRST, "ADS\\DATA\\TEST")], " "))
+
+
 def good() -> dict[str, bytes]:
     """Clean files, of two of them a sum is bad; and a file of no bytes, which reads with 0 and isn't clean."""
     return {
@@ -70,6 +79,7 @@ def good() -> dict[str, bytes]:
         "open-chunk": open_chunk(),
         "multichunk": multichunk(),
         "survey": survey(),
+        "padded": padded(),
         "begun": header("LLC", b""),
         "bad-chunk-sum": header("LLC", b"") + plain(b"", FIRST, b"abc", off=1),
         "bad-header-sum": header("LLC", b"", off=1) + plain(b"", FIRST, b"abc"),
@@ -100,10 +110,11 @@ def damaged_chunk() -> dict[str, bytes]:
         "damaged-05-stray-bytes": one + b"end of the tape copy\n",
         "damaged-06-date": changed(one, b"Recording_Date=20240229", b"Recording_Date=20230229", 1),
         "damaged-06-serial": changed(one, FIRST.encode(), FIRST.encode()[:-1] + b"2"),
-        "damaged-06-spaces": changed(one, b"Header_Length=000000000536", b"Header_Length=         536"),
+        "damaged-06-spaces": changed(one, b"Header_Length=000000000536", b"Header_Length=536         "),
         "damaged-07-header-length": changed(one, b"Header_Length=000000000536", b"Header_Length=000000000535"),
         "damaged-07-content-length": changed(one, content_length(4), content_length(0)),
         "damaged-09-repeated": one + plain(b"", FIRST, b"xyz"),
+        "damaged-09-other-check": one + plain(b"", serial("00042", fill=" "), b"xyz"),
     }
 
 

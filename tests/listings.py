@@ -9,9 +9,10 @@ import subprocess
 import sys
 from pathlib import Path
 
-from metafile_bytes import Type, header, multi, plain, serial
+from metafile_bytes import Dependency, Type, head, header, multi, plain, serial
 
 A, B = serial("00042"), serial("00043")
+A_SPACES, B_SPACES = serial("00042", fill=" "), serial("00043", fill=" ")
 MARK = b"M" * 90
 SAMPLE = header("LLC", b"") + plain(b"", A, b"abc")
 ONE = f"header good\nchunks 1\n0 319 568 3 good {A}\n"
@@ -19,6 +20,11 @@ ONE = f"header good\nchunks 1\n0 319 568 3 good {A}\n"
 OPEN = header("NUL", MARK) + plain(MARK, A, b"12345", is_open=True)
 MULTI = header("LLC", b"") + multi(b"", A, [Type("P2/91", "ADS\\DATA\\DEPTH")], [("P2/91", b"12345"), ("P2/91", b"")])
 SUMS = header("LLC", b"", off=1) + plain(b"", A, b"abc", off=1)
+STARS = b"****"
+PADDED = (header("NUL", STARS, fill=" ")
+          + plain(STARS, A_SPACES, b"line 7 begun\n", head(fill=" "), is_open=True, fill=" ")
+          + multi(STARS, B_SPACES, [Type("P2/91", "ADS\\DATA\\DEPTH")], [("P2/91", b"12345"), ("P2/91", b"")],
+                  [Dependency(A, "ADS\\DATA\\TEST")], " "))
 
 CASES: dict[str, tuple[bytes, str]] = {
     # the paper's example
@@ -35,6 +41,13 @@ CASES: dict[str, tuple[bytes, str]] = {
     "multi": (MULTI, f"header good\nchunks 1\n0 319 568 652 good {A}\nend 1793 0\n"),
     # both sums are wrong by one; a bad sum is no refusal
     "sums": (SUMS, f"header bad\nchunks 1\n0 319 568 3 bad {A}\nend 1178 0\n"),
+    # every length, count and check with spaces in front: the serial numbers are printed as they stand. A mark of 4 bytes:
+    # the header has 327, the open chunk 568 + 34 + 13 + 262, the MultiChunk 568 + 344 + 652 + 262
+    "padded": (PADDED, f"header good\nchunks 2\n0 327 568 13 good {A_SPACES}\n1 1204 912 652 good {B_SPACES}\nend 3030 0\n"),
+    # a serial number is the same whatever its check is written as
+    "other-check": (SAMPLE + plain(b"", A_SPACES, b"xyz"), ONE + "end 1178 9\n"),
+    # spaces behind the digits
+    "spaces-behind": (SAMPLE[:339] + b"536         " + SAMPLE[351:], "header good\nchunks 0\nend 319 6\n"),
     # "9 whole chunk, serial already in a row"
     "repeated": (SAMPLE + plain(b"", A, b"xyz"), ONE + "end 1178 9\n"),
     # two chunks, the second cut inside a field: 4 at the end of the first

@@ -1,7 +1,8 @@
 """ADS metafiles put together field by field, from docs/FORMAT.md alone: no library is asked.
 
 `header` gives a file header, `plain` and `multi` give a chunk; a file is these joined. Nothing is judged: a value out
-of form is put as given, so that damaged files can be made too. `left` is what a power failure leaves of an append.
+of form is put as given, so that damaged files can be made too. `fill` is what stands in front of lengths, counts and
+checks: zeros, or the spaces of older recorders. `left` is what a power failure leaves of an append.
 """
 from collections.abc import Collection, Sequence
 from typing import NamedTuple
@@ -9,17 +10,22 @@ from typing import NamedTuple
 BLOCK = 512
 
 
-def serial(random: str, moment: str = "20240229123456789", processor: str = "SURVEYDESK01") -> str:
+def count(value: int, width: int, fill: str = "0") -> str:
+    """A length, a count or a check in so many bytes."""
+    return str(value).rjust(width, fill)
+
+
+def serial(random: str, moment: str = "20240229123456789", processor: str = "SURVEYDESK01", fill: str = "0") -> str:
     """A serial number; its check is the sum of the 35 bytes before it."""
     first = "#" + moment + processor + random
-    return first + "%03d" % (sum(first.encode("ascii")) % 256)
+    return first + count(sum(first.encode("ascii")) % 256, 3, fill)
 
 
 def line(label: str, value: str) -> bytes:
     return f"{label}={value}\n".encode("ascii")
 
 
-def closed(summed: bytes, mark: bytes, number: str, off: int = 0) -> bytes:
+def closed(summed: bytes, mark: bytes, number: str, off: int = 0, fill: str = "0") -> bytes:
     """Bytes and their closing: mark, integrity data, mark. The sum is wrong by `off`."""
     summed += mark
     summed += line("Chunk_Serial_Number", number)
@@ -28,13 +34,14 @@ def closed(summed: bytes, mark: bytes, number: str, off: int = 0) -> bytes:
     summed += line("Chunk_Writing_Date", "20240301")
     summed += line("Chunk_Writing_Agent", "DESK".ljust(32))
     summed += b"Chunk_Integrity_Checksum="
-    return summed + b"%03d\n" % ((sum(summed) + off) % 256) + mark
+    return summed + count((sum(summed) + off) % 256, 3, fill).encode("ascii") + b"\n" + mark
 
 
-def header(strategy: str, mark: bytes, off: int = 0) -> bytes:
+def header(strategy: str, mark: bytes, off: int = 0, fill: str = "0") -> bytes:
     """A file header."""
-    title = b"Format_ID=Ancillary Data Standard 1.00\n" + line("Separator_Strategy", "%s%03d" % (strategy, len(mark)))
-    return closed(title, mark, serial("00007"), off)
+    title = line("Format_ID", "Ancillary Data Standard 1.00")
+    title += line("Separator_Strategy", strategy + count(len(mark), 3, fill))
+    return closed(title, mark, serial("00007", fill=fill), off, fill)
 
 
 def times(synch: str = "GEN", standard: str = "UTC", offset: str = "+0000      8.035", event: str = "NUL") -> bytes:
@@ -50,28 +57,28 @@ class Dependency(NamedTuple):
 
 
 def head(sub_format: str = "ADS\\DATA\\TEST", generic: str = "TXT", when: bytes = times(),
-         parents: Sequence[Dependency] = (), specific: bytes = b"") -> bytes:
+         parents: Sequence[Dependency] = (), specific: bytes = b"", fill: str = "0") -> bytes:
     """A chunk's header."""
     lengths = 344 * len(parents)
-    lines = line("Chunk_Header_Length", "%012d" % (536 + lengths + len(specific)))
+    lines = line("Chunk_Header_Length", count(536 + lengths + len(specific), 12, fill))
     lines += line("SubFormat_ID", sub_format.ljust(256)) + line("Generic_Type", generic) + when
-    lines += line("Chunk_Dependency_Length", "%012d" % (29 + lengths))
-    lines += line("Chunk_Dependency_Count", "%04d" % len(parents))
+    lines += line("Chunk_Dependency_Length", count(29 + lengths, 12, fill))
+    lines += line("Chunk_Dependency_Count", count(len(parents), 4, fill))
     for parent in parents:
         lines += line("Dependency_Serial_Number", parent.serial)
         lines += line("Dependency_SubFormatID", parent.sub_format.ljust(256))
     return lines + specific
 
 
-def content_length(count: int) -> bytes:
-    return line("Chunk_Content_Length", "%012d" % count)
+def content_length(value: int, fill: str = "0") -> bytes:
+    return line("Chunk_Content_Length", count(value, 12, fill))
 
 
 def plain(mark: bytes, number: str, data: bytes, chunk_header: bytes = head(), is_open: bool = False,
-          off: int = 0) -> bytes:
+          off: int = 0, fill: str = "0") -> bytes:
     """A chunk with plain contents, counted or open."""
-    count = 0 if is_open else len(data) + 1
-    return closed(chunk_header + content_length(count) + data, mark, number, off)
+    length = content_length(0 if is_open else len(data) + 1, fill)
+    return closed(chunk_header + length + data, mark, number, off, fill)
 
 
 class Type(NamedTuple):
@@ -82,23 +89,25 @@ class Type(NamedTuple):
     specific: bytes = b""
 
 
-def type_header(of: Type) -> bytes:
-    lines = line("SubType_Header_Length", "%012d" % (484 + len(of.specific)))
+def type_header(of: Type, fill: str = "0") -> bytes:
+    lines = line("SubType_Header_Length", count(484 + len(of.specific), 12, fill))
     lines += line("SubFormat_ID", of.sub_format.ljust(256)) + line("SubFormat_Short_ID", of.short_id.ljust(10))
     return lines + of.when + of.specific
 
 
-def mini(short_id: str, data: bytes) -> bytes:
-    return ("MiniChunk=%s%012d" % (short_id.ljust(10), len(data))).encode("ascii") + data
+def mini(short_id: str, data: bytes, fill: str = "0") -> bytes:
+    return ("MiniChunk=" + short_id.ljust(10) + count(len(data), 12, fill)).encode("ascii") + data
 
 
-def multi(mark: bytes, number: str, types: Sequence[Type], minis: Sequence[tuple[str, bytes]]) -> bytes:
+def multi(mark: bytes, number: str, types: Sequence[Type], minis: Sequence[tuple[str, bytes]],
+          parents: Sequence[Dependency] = (), fill: str = "0") -> bytes:
     """A MultiChunk."""
-    headers = b"".join(map(type_header, types))
-    lines = line("Multi_Chunk_Header_Length", "%012d" % (27 + len(headers)))
-    lines += line("MiniChunk_Type_Count", "%04d" % len(types))
-    data = b"".join(mini(short_id, part) for short_id, part in minis)
-    return closed(head("ADS\\SYS\\MultiChunk") + lines + headers + data, mark, number)
+    headers = b"".join(type_header(of, fill) for of in types)
+    lines = line("Multi_Chunk_Header_Length", count(27 + len(headers), 12, fill))
+    lines += line("MiniChunk_Type_Count", count(len(types), 4, fill))
+    data = b"".join(mini(short_id, part, fill) for short_id, part in minis)
+    chunk_header = head("ADS\\SYS\\MultiChunk", parents=parents, fill=fill)
+    return closed(chunk_header + lines + headers + data, mark, number, fill=fill)
 
 
 def writes(chunk: bytes, data: bytes, mark: bytes) -> list[bytes]:

@@ -62,8 +62,17 @@ fn header(nul: bool, mark: &[u8]) -> File {
 
 /// So many counted chunks of so many bytes. The last one has these rows as parents.
 pub fn counted(chunks: usize, bytes: usize, parents: &[usize]) -> File {
+    with_counted(header(false, b""), chunks, bytes, parents)
+}
+
+/// So many empty chunks, with spaces in front of the numbers at random.
+pub fn padded(chunks: usize) -> File {
+    let random = Random::new(1, "padded", 0);
+    with_counted(File::padded(false, b"", &closing(999_999), random), chunks, 0, &[])
+}
+
+fn with_counted(mut file: File, chunks: usize, bytes: usize, parents: &[usize]) -> File {
     let mut random = Random::new(1, "counted", 0);
-    let mut file = header(false, b"");
     for number in 0..chunks {
         let mut chunk = chunk(number, Contents::Counted(random.bytes(bytes)));
         if number + 1 == chunks {

@@ -118,21 +118,24 @@ fn mini_chunks(kept: &mut Vec<f64>) -> Report {
     Report { lines, goals: vec![goal("(iv) time, of plain's", kept[0] / kept[1], 1.0, false)] }
 }
 
-/// The three sizes in turns: a hundred readings of the smallest, ten of the next, one of the largest.
+/// The three sizes in turns: a hundred readings of the smallest, ten of the next, one of the largest. The largest once more
+/// with spaces in front of its numbers.
 #[rustfmt::skip]
 fn growth(times: &mut Vec<f64>) -> Report {
-    let files = [1_000, 10_000, 100_000].map(|chunks| files::counted(chunks, 0, &[]));
-    let [small, middle, large] = &files;
+    let counted = |chunks| files::counted(chunks, 0, &[]);
+    let files = [counted(1_000), counted(10_000), counted(100_000), files::padded(100_000)];
+    let [small, middle, large, padded] = &files;
     best(times, &mut [
         (100, &mut proved_reading(small)), (100, &mut plain_reading(small)), (100, &mut summed(small)),
         (10, &mut proved_reading(middle)), (10, &mut plain_reading(middle)), (10, &mut summed(middle)),
         (1, &mut proved_reading(large)), (1, &mut plain_reading(large)), (1, &mut summed(large)),
+        (1, &mut proved_reading(padded)), (1, &mut plain_reading(padded)), (1, &mut summed(padded)),
     ]);
     let (mut lines, mut each) = (Vec::new(), Vec::new());
-    for (file, of_file) in files.iter().zip(times.chunks(3)) {
+    for ((file, of_file), padded) in files.iter().zip(times.chunks(3)).zip(["", "", "", ", padded"]) {
         let chunks = file.rows.len();
         let a_chunk = |seconds: f64| seconds / chunks as f64 * 1e9;
-        let name = format!("(v) read, {chunks} empty chunks");
+        let name = format!("(v) read, {chunks} empty chunks{padded}");
         lines.push(line(&name, &of_file[..2], file.bytes.len(), Some(of_file[2])));
         lines.push(format!("{:48} {:10.1} {:10.1}   ns a chunk", "", a_chunk(of_file[0]), a_chunk(of_file[1])));
         each.push(a_chunk(of_file[0]));

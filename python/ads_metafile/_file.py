@@ -109,10 +109,17 @@ class File:
         return Row(self, chosen) if isinstance(chosen, int) else [Row(self, each) for each in chosen]
 
     def by_serial(self, serial: Text) -> Row:
-        """The row with that serial number; KeyError where there is none. The first call makes an index of all rows."""
+        """The row with that serial number, however its check is written; KeyError where there is none.
+
+        The first call makes an index of all rows.
+        """
         if self._index is None:
-            self._index = {record[0]: index for index, record in enumerate(self.records())}
-        return Row(self, self._index[text(serial, "serial")])
+            self._index = {_rows.in_digits(record[0]): index for index, record in enumerate(self.records())}
+        wanted = text(serial, "serial")
+        try:
+            return Row(self, self._index[_rows.in_digits(wanted)])
+        except KeyError:
+            raise KeyError(wanted) from None
 
     def records(self) -> Iterator[Record]:
         """The rows as plain tuples, quickly: serial number as bytes, place, header, contents place, bytes, end,

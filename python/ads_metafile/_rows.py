@@ -72,6 +72,12 @@ def dependency_at(data: memoryview, place: int, dependency: int) -> tuple[str, s
     return serial, _text(data, lines + _DEPENDENCY_AT["Dependency_SubFormatID="], SUB_FORMAT_WIDTH)
 
 
+def in_digits(serial: bytes) -> bytes:
+    """The serial number with zeros for the spaces in front of its check; so two writings of one are equal."""
+    check = serial[35:].lstrip(b" ")
+    return serial[:35] + check.rjust(len(serial) - 35, b"0") if check else serial
+
+
 def _text(data: memoryview, place: int, width: int) -> str:
     return data[place:place + width].tobytes().rstrip(b" ").decode("ascii")
 

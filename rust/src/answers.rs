@@ -41,7 +41,7 @@ impl fmt::Display for Ending {
 #[repr(C)]
 #[derive(Clone, Copy, PartialEq, Eq, Hash)]
 pub struct Row {
-    /// Serial number.
+    /// Serial number, as it stands. Two are the same if their first [`SERIAL_COMPARED`](crate::SERIAL_COMPARED) bytes are.
     pub serial: [u8; 38],
     /// Where the chunk begins.
     pub place: usize,

@@ -14,5 +14,6 @@ pub use answers::{Ending, Ends, Parent, Reading, Row, Table};
 pub use description::Description;
 pub use reading::{contents, gather, listing, parent, read, read_all};
 pub use refusal::Refusal;
-pub use sizes::{append_room, begin_room, most_rows, LISTING_ROOM, MOST_BYTES, MOST_MARK, MOST_PARENTS, STACK_BYTES};
+pub use sizes::{append_room, begin_room, most_rows};
+pub use sizes::{LISTING_ROOM, MOST_BYTES, MOST_MARK, MOST_PARENTS, SERIAL_COMPARED, STACK_BYTES};
 pub use writing::{append, begin, Header};

@@ -1,5 +1,8 @@
 //! The sizes of `ads.h` that callers need.
 
+/// Bytes by which two serial numbers are compared: all but the check, which may be written in several ways.
+pub const SERIAL_COMPARED: usize = 35;
+
 /// Bytes of the longest file, and of the longest buffer, that a call takes: 2^30.
 pub const MOST_BYTES: usize = 1 << 30;
 

@@ -154,6 +154,21 @@ fn open_and_counted() {
     }
 }
 
+/// Numbers with spaces in front; a serial number is one under two writings of its check.
+#[test]
+fn padded() {
+    let file = include_bytes!("../../samples/padded.ads");
+    let table = ads::read_all(file);
+    assert!(table.reading.is_clean(file) && table.reading.good);
+    assert_eq!(&table.rows[0].serial, b"#20240229123456789SURVEYDESK0100042  1");
+    let first = ads::SERIAL_COMPARED;
+    assert_eq!((first, &table.rows[0].serial[..first]), (35, &FIRST[..first]));
+    assert_eq!(ads::parent(file, 1, 0), Ok(Some(Parent { row: 0, agree: true })));
+    let mut buffer = [&file[..], &[0; 1000]].concat();
+    let again = ads::append(&mut buffer, file.len(), described(FIRST), &[], b"", b"", false);
+    assert_eq!(again, Err(Refusal::Repeated));
+}
+
 #[test]
 fn refusals() {
     let (mut buffer, length) = sample();

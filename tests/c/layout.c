@@ -78,6 +78,7 @@ PLACE(ads_description, written, 456);
 PLACE(ads_description, writer, 464);
 
 static_assert(sizeof(((ads_row *)0)->serial) == ADS_SERIAL_BYTES, "ADS_SERIAL_BYTES");
+static_assert(ADS_SERIAL_COMPARED == 35, "ADS_SERIAL_COMPARED");
 static_assert(sizeof(((ads_row *)0)->ending) == 1, "ending");
 static_assert(ADS_COUNTED == 0 && ADS_FOUND == 1 && ADS_BY_MINI_CHUNKS == 2, "endings");
 static_assert(ADS_MOST_ROWS(0) == 1 && ADS_MOST_ROWS(319 + 856) == 2, "ADS_MOST_ROWS");

@@ -155,7 +155,7 @@ class AtOnce(unittest.TestCase):
         self.assertLessEqual(set(answers), {b"abc", "closed"})
 
     def test_the_lock_is_let_go(self) -> None:
-        """While one thread is in a call another one runs, though Python itself wouldn't switch."""
+        """While one thread is in calls another one runs, though Python itself wouldn't switch."""
         data = ads_metafile.append(support.begun(), support.description(), bytes(64 * 2**20)).data
         table = bytearray(104)
         ticks, stop = [0], threading.Event()
@@ -171,8 +171,11 @@ class AtOnce(unittest.TestCase):
         sys.setswitchinterval(100)
         try:
             before = ticks[0]
-            reading = _library.call("ads_read", Lent(data), len(data), Lent(table, writable=True), 1)
-            during = ticks[0] - before
+            for _ in range(500):  # a reading takes a few milliseconds, and the machine may be busy
+                reading = _library.call("ads_read", Lent(data), len(data), Lent(table, writable=True), 1)
+                during = ticks[0] - before
+                if during:
+                    break
         finally:
             sys.setswitchinterval(interval)
             stop.set()

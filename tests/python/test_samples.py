@@ -20,7 +20,7 @@ import make  # noqa: E402
 import listings  # noqa: E402
 from support import begun, description  # noqa: E402
 
-MOST_BYTES = 60_000
+MOST_BYTES = 80_000
 
 
 class Told(NamedTuple):
@@ -61,7 +61,8 @@ class Files(unittest.TestCase):
 
     def test_the_listings_are_of_the_same_files(self) -> None:
         same = {"one-chunk.ads": "sample", "open-chunk.ads": "open", "multichunk.ads": "multi",
-                "damaged-09-repeated.ads": "repeated", "no-bytes.ads": "no-bytes"}
+                "damaged-09-repeated.ads": "repeated", "no-bytes.ads": "no-bytes", "padded.ads": "padded",
+                "damaged-09-other-check.ads": "other-check", "damaged-06-spaces.ads": "spaces-behind"}
         for sample, name in same.items():
             self.assertEqual((SAMPLES / sample).read_bytes(), listings.CASES[name][0], name)
 
@@ -117,7 +118,7 @@ class Check(unittest.TestCase):
 
 
 class FormatExamples(unittest.TestCase):
-    """docs/FORMAT.md's examples of offsets, and of open data that hold a part of the mark."""
+    """docs/FORMAT.md's examples of spaces in front, of offsets, and of open data that hold a part of the mark."""
 
     def appended(self, strategy: str, mark: bytes, contents: bytes, is_open: bool, offset: str) -> int:
         """The offset in the row of a chunk that is appended to a file without chunks."""
@@ -136,6 +137,21 @@ class FormatExamples(unittest.TestCase):
                 self.assertEqual(refused.exception.number, ads_metafile.FORM)
             else:
                 self.assertEqual(self.appended("LLC", b"", b"", False, offset), int(value), offset)
+
+    def test_spaces_in_front(self) -> None:
+        """As the mark length, and as the checksum of the file header."""
+        text = (ROOT / "docs" / "FORMAT.md").read_text(encoding="utf-8")
+        examples = re.findall(r"^\| `(.{3})` \| (\d+|out of form) \|$", text, re.MULTILINE)
+        self.assertEqual(len(examples), 7)
+        header = begun("LLC", b"MMMMMMM")
+        for written, value in examples:
+            field = written.encode()
+            title = ads_metafile.read(header[:61] + field + header[64:])
+            summed = ads_metafile.read(header[:322] + field + header[325:])
+            if value == "out of form":
+                self.assertEqual((title.number, summed.number), (ads_metafile.TITLE, ads_metafile.FORM), written)
+            else:
+                self.assertEqual((title.number, title.mark, summed.number), (0, b"M" * int(value), 0), written)
 
     def test_open_data_and_mark(self) -> None:
         self.assertEqual(self.appended("NUL", b"ABAB", b"QA", True, "+0000      0.000"), 0)

@@ -4,7 +4,7 @@
 --     layout-whole     there is no fault
 --     Placed, placed   a whole chunk: each number of its layout, inside the file
 --     parts-..         the parts of a whole chunk, as they are read without judging it
---     serial-is offset-.. line-inside count-read ending-.. row-is   what a row has beside them
+--     serial-is offset-.. line-inside nothing-read ending-.. row-is   what a row has beside them
 -- Assumes nothing.
 use Prim.Native.Nat.{ℕ, zero, suc, _+_, _-_, _≤_}
 use mathlib.Core.Bool.{Bool, true, false}
@@ -15,12 +15,12 @@ use lib.ListN.{length, take, drop, length-drop}
 use lib.Seq.{drop-drop}
 use lib.Dec.{eqb}
 use lib.IntN.{ℤ, pos}
-use Rattle.metafile.specs.Bytes.{part, choose, same, sum}
+use Rattle.metafile.specs.Bytes.{part, choose, isZero, same, sum}
 use Rattle.metafile.specs.Fields.{countValue, offsetValue}
 use Rattle.metafile.specs.Lines.{run}
 use Rattle.metafile.specs.Closing.{closing, closingEnd, closingSerial, sumPlace, sumGood}
 use Rattle.metafile.specs.Chunk.{head, synchType, standard, offsetBytes, dependencies, isMulti, headerBytes, chunkHeaderFault, contentsFault, contentsFrom, contentsLong, contentsPlace, contentsBytes, closingPlace, chunkEnd, serialOf, chunkFault, contentCount, endingOf, chunkEnding, offsetUnder, rowAt}
-use Rattle.laws.proofs.First.{cases, choose-go, choose-stop}
+use Rattle.laws.proofs.First.{cases, untrue, isZero-zero, isZero-is, choose-go, choose-stop}
 use Rattle.laws.proofs.Loops.{part-drop}
 use Rattle.chunk_laws.proofs.Contents.{contents-least, contents-enough}
 use Rattle.chunk_laws.proofs.Chunk.{whole, fits-head, fits-header, fits}
@@ -232,24 +232,29 @@ unfolding contentsPlace contentsBytes
 line-inside l m s q =
     omega (arith, q .header-is, q .contents-is, q .bytes-is, q .closed, q .inside, contents-least (isMulti s) m (drop (headerBytes s) s))
 
-pub count-read : (l : Layout) (m s : List ℕ) → Placed l m s → (n : ℕ) → n ≡ countValue (part (l .header + 21) 12 s) → n ≡ contentCount (drop (headerBytes s) s)
+pub nothing-read : (l : Layout) (m s : List ℕ) → Placed l m s
+    → (z : Bool) → z ≡ isZero (countValue (take (l .header + 21 + 12 - (l .header + 21)) (drop (l .header + 21) s)))
+    → z ≡ isZero (contentCount (drop (headerBytes s) s))
 unfolding contentCount
-count-read l m s q n e = rw (drop-drop 21 (headerBytes s) s, ← q .header-is) e
+nothing-read l m s q z e =
+    let n : l .header + 21 + 12 - (l .header + 21) ≡ 12 = omega arith in
+    rw (drop-drop 21 (headerBytes s) s, ← q .header-is) (rw n at e)
 
--- mc says whether it is a MultiChunk, n is the content length
+-- mc says whether it is a MultiChunk, z whether the content length is 0
 module _ (s : List ℕ) (mc : Bool) (e : mc ≡ isMulti s) where
   pub ending-minis : mc ≡ true → 2 ≡ chunkEnding s
   unfolding chunkEnding endingOf
   ending-minis t = rw (sym e ∙ t)
 
-  module _ (f : mc ≡ false) (n : ℕ) (en : n ≡ contentCount (drop (headerBytes s) s)) where
-    pub ending-found : n ≡ 0 → 1 ≡ chunkEnding s
+  module _ (f : mc ≡ false) (z : Bool) (ez : z ≡ isZero (contentCount (drop (headerBytes s) s))) where
+    pub ending-found : z ≡ true → 1 ≡ chunkEnding s
     unfolding chunkEnding endingOf
-    ending-found z = rw (sym e ∙ f, sym en ∙ z)
+    ending-found t = rw (sym e ∙ f, isZero-zero _ (sym ez ∙ t))
 
-    pub ending-counted : (n ≡ 0 → ⊥) → 0 ≡ chunkEnding s
+    pub ending-counted : z ≡ false → 0 ≡ chunkEnding s
     unfolding chunkEnding endingOf
-    ending-counted z = cases n (λ q. absurd (z q)) (λ k q. rw (sym e ∙ f, sym en ∙ q))
+    ending-counted t =
+        cases (contentCount (drop (headerBytes s) s)) (λ q. untrue (sym t ∙ ez ∙ isZero-is _ q)) (λ k q. rw (sym e ∙ f, q))
 
 -- ---- the row
 

@@ -8,7 +8,6 @@ ghost use Rattle.metafile.specs.Chunk.{head, synchType, standard, offsetBytes, 
 ghost use Rattle.chunk.specs.Layout.{WholeLayout};
 use crate::Layout;
 use crate::closing::sum_good;
-use crate::counts::count_at;
 use lines::words;
 use metafile::Row;
 use metafile::endings;
@@ -46,7 +45,7 @@ fn ending(s: &[u8], mark: &[u8], l: Layout) -> u8
         return endings::BY_MINI_CHUNKS;
     }
     let at = l.header + places::CONTENT_LENGTH;
-    if count_at(s, at, places::LENGTH) == 0 {
+    if fields::counts_nothing(&s[at..at + places::LENGTH]) {
         return endings::FOUND;
     }
     endings::COUNTED

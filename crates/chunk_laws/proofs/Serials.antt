@@ -19,7 +19,7 @@ use Rattle.metafile.specs.Reading.{halt, onto, nextFault, readRows, rowsOf, ser
 use Rattle.metafile.specs.Append.{rowNo}
 use Rattle.metafile.specs.Calls.{rowWith}
 use Rattle.laws.proofs.First.{test, and-both, both-and, or-false, ⊳-right, require-true}
-use Rattle.laws.proofs.Lists.{same-refl}
+use Rattle.laws.proofs.SameSerial.{serial-refl}
 use Rattle.chunk_laws.proofs.Rows.{past, read-end, read-stop, read-step, read-full, step-cases}
 use Rattle.chunk_laws.proofs.File.{rowsBehind, rows-begun, rows-unbegun, header-cases}
 
@@ -94,9 +94,9 @@ not-seen (r ∷ rs) seen (suc k) h f =
     (not-seen rs (r .serial ∷ seen) k (omega arith) (and-both (not (known (r .serial) seen)) _ f .1)) .1
 
 pub rowWith-self : (rs : List Row) (seen : List (List ℕ)) (k : ℕ) → k < length rs → fresh seen rs ≡ true → rowWith (rowNo rs k .serial) rs ≡ k
-unfolding fresh rowNo rowWith known sameSerial
+unfolding fresh rowNo rowWith known
 rowWith-self [] seen k h f = absurd (omega arith)
-rowWith-self (r ∷ rs) seen zero h f = rw (same-refl (r .serial))
+rowWith-self (r ∷ rs) seen zero h f = rw (serial-refl (r .serial))
 rowWith-self (r ∷ rs) seen (suc k) h f =
     let rest = and-both (not (known (r .serial) seen)) _ f .1 in
     let other = or-false (sameSerial (rowNo rs k .serial) (r .serial)) (known (rowNo rs k .serial) seen) (not-seen rs (r .serial ∷ seen) k (omega arith) rest) .0 in

@@ -8,21 +8,24 @@
 --     number-append             the number of two runs of bytes, one behind the other
 --     digits-below              n digits come to less than 10^n
 --     digits-to                 what the test tells
+--     count-none, count-plain   a count of no bytes; one that has no space in front
+--     nothing-is                a count is 0 where no byte is above "0"
 -- Assumes nothing.
-use Prim.Native.Nat.{ℕ, suc, _+_, _-_, _*_, _^_, _≤_, _<_}
-use mathlib.Core.Bool.{true}
-use mathlib.Core.Path.{_≡_, _∙_}
+use Prim.Native.Nat.{ℕ, zero, suc, _+_, _-_, _*_, _^_, _≤_, _<_}
+use mathlib.Core.Bool.{true, false, _&&_, and-true}
+use mathlib.Core.Path.{_≡_, refl, sym, ap, _∙_}
 use mathlib.Core.List.{List, [], _∷_, _++_}
 use native.Mathlib.Omega.{arith}
 use native.Mathlib.Nat.{pow-le-pow-right, pow-suc, mul-le-mul-right}
 use lib.Dec.{leb}
 use lib.ListN.{length, drop, getD, drop-of-length-le, length-drop}
 use lib.Seq.{drop-cons}
-use borrow.Author.Tests.{leb-true}
-use Rattle.metafile.specs.Bytes.{all}
-use Rattle.metafile.specs.Fields.{isDigit, number, numberFrom, digitsTo, takeWhile}
-use Rattle.laws.proofs.First.{test, and-both}
-use Rattle.laws.proofs.Digits.{numberFrom-append}
+use borrow.Author.Tests.{leb-true, leb-false, le-leb, ne-eqb}
+use Rattle.metafile.specs.Bytes.{all, isZero}
+use Rattle.metafile.specs.Fields.{isDigit, number, numberFrom, digitsTo, isSpace, takeWhile, dropWhile, isCount, countValue}
+use Rattle.laws.proofs.First.{test, and-both, isZero-is, isZero-not}
+use Rattle.laws.proofs.Digits.{numberFrom-append, count-number}
+use Rattle.fields.proofs.Prefix.{within, and-assoc}
 
 -- ---- bounds
 
@@ -92,3 +95,34 @@ digits-below (d ∷ s) =
 pub digits-to : (most : ℕ) (s : List ℕ) → digitsTo most s ≡ true → number s ≤ most
 unfolding digitsTo
 digits-to most s e = leb-true (number s) most (and-both (all isDigit s) (leb (number s) most) e .1)
+
+-- ---- spaces in front
+
+pub count-none : (s : List ℕ) → length s ≡ 0 → false ≡ isCount s
+unfolding isCount dropWhile
+count-none [] e = refl
+count-none (x ∷ s) e = absurd (omega arith)
+
+pub count-plain : (s : List ℕ) → (length s ≡ 0 → ⊥) → (getD s 0 0 ≡ 32 → ⊥) → all isDigit s ≡ isCount s
+unfolding isCount dropWhile isSpace
+count-plain [] n h = absurd (n refl)
+count-plain (x ∷ s) n h = rw (ne-eqb x 32 h, le-leb 1 (suc (length s)) (omega arith))
+
+-- ---- a count of 0
+
+nothing-more : (acc x : ℕ) → isZero (acc * 10 + (x - 48)) ≡ (isZero acc && within 0 48 x)
+unfolding isZero
+nothing-more (suc acc) x = isZero-not (suc acc * 10 + (x - 48)) (λ e. omega (arith, e))
+nothing-more zero x =
+    test (leb x 48)
+    (λ q. rw (le-leb 0 x (omega arith), q) (isZero-is (0 * 10 + (x - 48)) (omega (arith, leb-true x 48 q))))
+    (λ q. rw (le-leb 0 x (omega arith), q) (isZero-not (0 * 10 + (x - 48)) (λ e. omega (arith, leb-false x 48 q, e))))
+
+nothing-from : (acc : ℕ) (s : List ℕ) → isZero (numberFrom acc s) ≡ (isZero acc && all (within 0 48) s)
+unfolding numberFrom all
+nothing-from acc [] = sym (and-true (isZero acc))
+nothing-from acc (x ∷ s) =
+    nothing-from (acc * 10 + (x - 48)) s ∙ rw (nothing-more acc x) (and-assoc (isZero acc) (within 0 48 x) (all (within 0 48) s))
+
+pub nothing-is : (s : List ℕ) → all (within 0 48) s ≡ isZero (countValue s)
+nothing-is s = sym (ap isZero (count-number s) ∙ (unfold number isZero in nothing-from 0 s))

@@ -2,8 +2,8 @@
 -- spaces are all judged by it.
 --     within low high x                     a byte from low to high
 --     byte-below, byte-above, byte-within   a byte against two bounds
---     within-space                          the bounds of a space
---     all-next, all-end                     all bytes judged: one more, none left
+--     within-space spaces-passed            the bounds of a space
+--     and-assoc, all-next, all-end          tests joined; all bytes judged: one more, none left
 --     prefix-passed, prefix-stopped         one byte more that passes, a byte that doesn't
 --     prefix-end                            no byte left
 --     prefix-le, rest-le                    lengths
@@ -51,7 +51,14 @@ within-space =
     (λ q. rw (p, q) (sym (ne-eqb x 32 (omega (arith, leb-false x 32 q))))))
     (λ p. rw p (sym (ne-eqb x 32 (omega (arith, leb-false 32 x p)))))
 
+pub spaces-passed : (s : List ℕ) → dropWhile (within 32 32) s ≡ dropWhile isSpace s
+spaces-passed s = rw within-space
+
 -- ---- all bytes judged, one after another
+
+pub and-assoc : (a b c : Bool) → ((a && b) && c) ≡ (a && (b && c))
+and-assoc true b c = refl
+and-assoc false b c = refl
 
 module _ (p : ℕ → Bool) (s : List ℕ) (i : ℕ) where
   pub all-next : (good : Bool) → i < length s → all p s ≡ (good && all p (drop i s)) → all p s ≡ ((good && p (getD s i 0)) && all p (drop (i + 1) s))

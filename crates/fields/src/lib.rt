@@ -1,7 +1,8 @@
 // The text fields of the metafile, judged and valued on slices: number fields, counts, texts, dates, offsets and
 // serial numbers, as the scope paper has them under "Text fields". A test answers yes or no, a value is total on the
 // bytes that its contract asks for, and each contract equates the answer with the definition of that name in the
-// metafile crate (specs/Fields). Tests are joined by & and |: all are made, with no branch between them.
+// metafile crate (specs/Fields). Tests are joined by & and |: all are made, with no branch between them; only a count that
+// begins with a space is judged in another way.
 // It rests on `sums` for the serial number's check and on `search` for equal bytes.
 //     numbers   digits, number fields, counts, texts
 //     dates     dates
@@ -14,6 +15,7 @@ mod serials;
 
 pub use dates::is_date;
 pub use numbers::count_value;
+pub use numbers::counts_nothing;
 pub use numbers::is_count;
 pub use numbers::is_digits;
 pub use numbers::is_text;

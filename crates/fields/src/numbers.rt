@@ -1,11 +1,12 @@
 // Number fields, counts and texts: "A number field In is n digits 0 to 9. A text field An is n bytes from 32 to 126."
+// Counts "may have leading spaces before at least one digit".
 ghost use mathlib.Core.Path.{_≡_};
 ghost use mathlib.Core.Bool.{_&&_};
 ghost use Prim.Native.Nat.{_+_, _-_, _≤_};
 ghost use lib.Dec.{leb};
 ghost use lib.ListN.{length};
-ghost use Rattle.metafile.specs.Bytes.{part, all};
-ghost use Rattle.metafile.specs.Fields.{isDigit, number, digitsTo, isCount, countValue, isText, takeWhile};
+ghost use Rattle.metafile.specs.Bytes.{part, all, isZero};
+ghost use Rattle.metafile.specs.Fields.{isDigit, number, digitsTo, isCount, countValue, isText, takeWhile, dropWhile};
 
 // How many bytes at the start of s lie from low to high.
 pub fn leading(s: &[u8], low: u8, high: u8) -> usize
@@ -22,6 +23,14 @@ pub fn leading(s: &[u8], low: u8, high: u8) -> usize
         i += 1;
     }
     i
+}
+
+// What follows the bytes at the start of s that lie from low to high.
+pub fn after(s: &[u8], low: u8, high: u8) -> &[u8]
+    ensures { λ r. ⌜ now r ≡ dropWhile (λ x. leb low x && leb x high) (now (s .entry)) ⌝ }
+{
+    let n = leading(s, low, high);
+    &s[n..]
 }
 
 // Whether all bytes lie from low to high, with no branch between them.
@@ -92,16 +101,40 @@ pub fn digits_at(s: &[u8], at: usize, n: usize, most: u64) -> bool
     is_digits(&s[at..at + n]) & (number_at(s, at, n) <= most)
 }
 
-// Lengths, counts, the mark length and the two checks: digits for now, apart because recorders may pad them.
+// ---- lengths, counts, the mark length and the two checks
+
+// Spaces, then digits to the end, at least one.
+fn is_padded(s: &[u8]) -> bool
+    ensures { λ r. ⌜ r ≡ isCount (now (s .entry)) ⌝ }
+{
+    let rest = after(s, b' ', b' ');
+    (1 <= rest.len()) & (leading(rest, b'0', b'9') == rest.len())
+}
+
+// Most have no space in front, and are digits.
 pub fn is_count(s: &[u8]) -> bool
     ensures { λ r. ⌜ r ≡ isCount (now (s .entry)) ⌝ }
 {
+    if s.len() == 0 {
+        return false;
+    }
+    if s[0] == b' ' {
+        return is_padded(s);
+    }
     is_digits(s)
 }
 
+// A space in front is below "0" and counts nothing.
 pub fn count_value(s: &[u8]) -> u64
     requires { ⌜ length (now s) ≤ 12 ⌝ }
     ensures { λ r. ⌜ r ≡ countValue (now (s .entry)) ⌝ }
 {
     number(s)
+}
+
+// Whether a count is 0: no byte of it is above "0".
+pub fn counts_nothing(s: &[u8]) -> bool
+    ensures { λ r. ⌜ r ≡ isZero (countValue (now (s .entry))) ⌝ }
+{
+    within(s, 0, b'0')
 }

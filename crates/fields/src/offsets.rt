@@ -10,20 +10,13 @@ ghost use Rattle.metafile.specs.Bytes.{all};
 ghost use Rattle.metafile.specs.Fields.{isDigit, isSpace, takeWhile, dropWhile};
 ghost use Rattle.metafile.specs.Fields.{pointPassed, digitsBefore, pointOn, digitsBehind, spacesBehind};
 ghost use Rattle.metafile.specs.Fields.{isDecimal, second, decimalUnits, isOffset, offsetValue};
+use crate::numbers::after;
 use crate::numbers::digits_at;
 use crate::numbers::leading;
 use crate::numbers::number;
 use crate::numbers::number_at;
 
 // ---- the parts of a decimal: spaces, digits, a point, digits, spaces
-
-// What follows the bytes at the start of s that lie from low to high.
-fn after(s: &[u8], low: u8, high: u8) -> &[u8]
-    ensures { λ r. ⌜ now r ≡ dropWhile (λ x. leb low x && leb x high) (now (s .entry)) ⌝ }
-{
-    let n = leading(s, low, high);
-    &s[n..]
-}
 
 // The digits at the start of s.
 fn digits(s: &[u8]) -> &[u8]

@@ -15,23 +15,25 @@ pub fn is_serial(serial: [u8; 38]) -> bool
 {
     let s = &serial[..];
     let check = &s[35..38];
-    (s[0] == b'#')
+    let good = (s[0] == b'#')
         & is_date(&s[1..9])
         & digits_at(s, 9, 2, 23)
         & digits_at(s, 11, 2, 59)
         & digits_at(s, 13, 2, 59)
         & digits_at(s, 15, 3, 999)
         & is_text(&s[18..30])
-        & digits_at(s, 30, 5, 65535)
-        & is_count(check)
-        & (count_value(check) == sums::byte_sum(&s[0..35]) as u64)
+        & digits_at(s, 30, 5, 65535);
+    let right = count_value(check) == sums::byte_sum(&s[0..35]) as u64;
+    good & is_count(check) & right
 }
 
-// Equality of serial numbers: all 38 bytes for now.
+// "Serials are compared by their first 35 bytes."
 pub fn same_serial(a: [u8; 38], b: [u8; 38]) -> bool
     ensures { λ r. ⌜ r ≡ sameSerial a b ⌝ }
 {
-    search::same_bytes(&a[..], &b[..])
+    let x = &a[..];
+    let y = &b[..];
+    search::same_bytes(&x[0..35], &y[0..35])
 }
 
 // The serial number at the start of a slice.

@@ -1,5 +1,6 @@
 -- What an index holds (specs/Index, Holds), for a reading that enters the tags of its rows' serial numbers one by one.
---     same-hash      the same serial number has the same hash: all that is used of sameSerial
+--     same-hash      the same serial number has the same hash, however its check is written: all that is used of sameSerial
+--     one-slot one-tag   so it has one slot and one tag
 --     slot-below     a slot is one of the first 196613
 --     place-new      where the place of its hash is empty, no serial number held is this one
 --     holds-none     empty slots hold no serial number
@@ -8,20 +9,21 @@
 -- The tag of a serial number that is held is reached from its slot before an empty slot; entering writes only into an empty
 -- slot, or what stands there, so what was reached before is reached after it.
 -- Assumes nothing.
-use Prim.Native.Nat.{ℕ, zero, suc, _+_, _<_}
+use Prim.Native.Nat.{ℕ, zero, suc, _+_, _*_, _<_}
 use mathlib.Core.Bool.{true, false, _||_}
 use mathlib.Core.Path.{_≡_, refl, sym, ap, _∙_}
 use mathlib.Core.List.{List, [], _∷_, _++_}
 use native.Mathlib.Omega.{arith}
 use lib.Dec.{eqb}
-use lib.ListN.{length, drop, getD, set, replicate, length-drop, length-set, length-replicate}
-use lib.Seq.{drop-set-lt, drop-set-add, getD-drop, set-getD}
+use lib.ListN.{length, take, drop, getD, set, replicate, length-drop, length-set, length-replicate}
+use lib.Seq.{take-take, drop-set-lt, drop-set-add, getD-drop, set-getD}
 use borrow.Author.Tests.{eqb-true, eq-eqb}
-use Rattle.metafile.specs.Bytes.{isZero}
+use Rattle.metafile.specs.Bytes.{part, isZero}
 use Rattle.metafile.specs.Fields.{sameSerial, known}
 use Rattle.laws.proofs.First.{test, untrue, or-true, or-left, or-right, isZero-zero}
-use Rattle.laws.proofs.Lists.{same-eq}
-use Rattle.index.specs.Index.{hashOf, tagOf, slotOf, firstOf, size, placeFor, reached, Holds}
+use Rattle.laws.proofs.Lists.{drop-take}
+use Rattle.laws.proofs.SameSerial.{same-first}
+use Rattle.index.specs.Index.{joinedBytes, weightedFrom, weights, hashOf, tagOf, slotOf, firstOf, size, placeFor, reached, Holds}
 
 -- ---- tags, hashes and slots
 
@@ -29,9 +31,27 @@ tag-some : (h : ℕ) → 0 < tagOf h
 unfolding tagOf
 tag-some h = omega arith
 
+-- five bytes for each weight, and no more
+weighted-first : (ws x : List ℕ) → weightedFrom ws x ≡ weightedFrom ws (take (5 * length ws) x)
+unfolding weightedFrom
+weighted-first [] x = refl
+weighted-first (w ∷ ws) x =
+    let n : 5 * length (w ∷ ws) ≡ 5 + 5 * length ws = omega arith in
+    rw (n, take-take 5 (5 + 5 * length ws) x (omega arith), drop-take 5 (5 * length ws) x)
+    (ap (λ (h : ℕ). joinedBytes 0 (part 0 5 x) * w + h) (weighted-first ws (drop 5 x)))
+
+hash-first : (x : List ℕ) → hashOf x ≡ hashOf (take 35 x)
+unfolding hashOf weights
+hash-first x = weighted-first weights x
+
 pub same-hash : (x y : List ℕ) → sameSerial x y ≡ true → hashOf x ≡ hashOf y
-unfolding sameSerial
-same-hash x y e = ap hashOf (same-eq x y e)
+same-hash x y e = hash-first x ∙ ap hashOf (same-first x y e) ∙ sym (hash-first y)
+
+pub one-slot : (x y : List ℕ) → sameSerial x y ≡ true → slotOf (hashOf x) ≡ slotOf (hashOf y)
+one-slot x y e = ap slotOf (same-hash x y e)
+
+pub one-tag : (x y : List ℕ) → sameSerial x y ≡ true → tagOf (hashOf x) ≡ tagOf (hashOf y)
+one-tag x y e = ap tagOf (same-hash x y e)
 
 pub slot-below : (h : ℕ) → slotOf h < 196613
 unfolding slotOf

@@ -35,17 +35,17 @@ fixed-formed b fs vs =
     )
 
 -- a number below 10^n in n digits, not above the field's bound
-pub count-formed : (n most x : ℕ) (fs : List Field) (vs : List (List ℕ)) → x < 10 ^ n → x ≤ most
+pub count-formed : (n most x : ℕ) (fs : List Field) (vs : List (List ℕ)) → 0 < n → x < 10 ^ n → x ≤ most
     → formed (value (count n most) ∷ fs) (digitsOf n x ∷ vs) ≡ formed fs vs
 unfolding formed put left fieldWidth width fault kindFault countFault firstOf othersOf
-count-formed n most x fs vs h l =
+count-formed n most x fs vs some h l =
     let long : n ≤ length (digitsOf n x) = omega (arith, length-digitsOf n x) in
     let whole : take n (digitsOf n x) ≡ digitsOf n x = take-all n (digitsOf n x) (omega (arith, length-digitsOf n x)) in
     rw (
       eq-eqb (length (digitsOf n x)) n (length-digitsOf n x),
       field-long n (countFault most) (digitsOf n x) long,
       whole,
-      count-digitsOf n x,
+      count-digitsOf n x some,
       countValue-digitsOf n x h,
       le-leb x most l,
     )
@@ -65,7 +65,7 @@ module _ (m : List ℕ) (i : Integrity) (e : formed (linesOf integrityLines) (in
   pub unsummed-formed : (x : ℕ) → x < 256 → formed (unsummed m) (digitsOf 3 x ∷ []) ≡ true
   unfolding unsummed checksum lf formed
   unsummed-formed x h =
-      rw (count-formed 3 255 x (fixed (10 ∷ []) ∷ fixed m ∷ []) [] (omega arith) (omega arith), fixed-formed (10 ∷ []) (fixed m ∷ []) [], fixed-formed m [] [])
+      rw (count-formed 3 255 x (fixed (10 ∷ []) ∷ fixed m ∷ []) [] (omega arith) (omega arith) (omega arith), fixed-formed (10 ∷ []) (fixed m ∷ []) [], fixed-formed m [] [])
 
   -- ---- behind some bytes
 

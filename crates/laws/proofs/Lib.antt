@@ -1,6 +1,7 @@
 -- First      tests, and the first fault of stages in a row
 -- Lists      equal bytes, tests over all bytes, parts, members
 -- Digits     a number in n digits is read back
+-- SameSerial serial numbers compared by their first 35 bytes
 -- Zero       what holds no zero byte: digits, text, date, offset, serial number
 -- Table      the field rule, and the laws of a run over a stretch of fields: enough, local, zero-free, round trip
 -- Stages     stages in a row as code goes through them, and bytes at a place
@@ -14,6 +15,7 @@
 pub mod First
 pub mod Lists
 pub mod Digits
+pub mod SameSerial
 pub mod Zero
 pub mod Table
 pub mod Stages

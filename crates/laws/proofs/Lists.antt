@@ -1,6 +1,6 @@
 -- Laws of lists of bytes: equal bytes, a test over all bytes, parts, members, padding, the first place of a mark.
 --     same-eq same-refl same-not   equal bytes; all-append all-weaken all-take all-drop: a test over all bytes
---     part-local                   a part that ends inside is the same with more bytes behind
+--     part-local drop-take         a part that ends inside is the same with more bytes behind, or fewer
 --     length-padded padded-take    padding
 --     starts-local find-local find-least find-fits   the first place of a mark
 -- Assumes nothing.
@@ -11,7 +11,7 @@ use mathlib.Core.List.{List, [], _∷_, _++_, append-assoc, append-nil}
 use native.Mathlib.Omega.{arith}
 use lib.Dec.{leb, eqb}
 use lib.ListN.{length, take, drop, replicate, length-append, length-drop, length-replicate}
-use lib.Seq.{take-append-le, drop-append-le}
+use lib.Seq.{take-all, take-append-le, drop-append-le}
 use borrow.Author.Tests.{eqb-true, eq-eqb}
 use Rattle.metafile.specs.Bytes.{part, all, nonZero, same, member, starts, find}
 use Rattle.metafile.specs.Fields.{padded}
@@ -75,6 +75,11 @@ part-local p n s t h =
     let hp : p ≤ length s = omega arith in
     let hn : n ≤ length (drop p s) = simp length-drop (omega arith) in
     rw (drop-append-le p s t hp) (take-append-le n (drop p s) t hn)
+
+pub drop-take : (p n : ℕ) (s : List ℕ) → drop p (take (p + n) s) ≡ take n (drop p s)
+drop-take zero n s = let k : zero + n ≡ n = omega arith in rw k
+drop-take (suc p) n [] = let k : suc p + n ≡ suc (p + n) = omega arith in rw (k, take-all {A = ℕ} n [] (omega arith))
+drop-take (suc p) n (x ∷ xs) = let k : suc p + n ≡ suc (p + n) = omega arith in rw k (drop-take p n xs)
 
 -- ---- padding
 

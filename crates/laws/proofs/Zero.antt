@@ -40,9 +40,17 @@ digits-clear v e = all-weaken isDigit nonZero v digit-nonZero e
 pub text-clear : (v : List ℕ) → all isText v ≡ true → all nonZero v ≡ true
 text-clear v e = all-weaken isText nonZero v text-nonZero e
 
+while-clear : (p : ℕ → Bool) (v : List ℕ) → ((x : ℕ) → p x ≡ true → nonZero x ≡ true) → all nonZero (dropWhile p v) ≡ true → all nonZero v ≡ true
+unfolding dropWhile all
+while-clear p [] h e = refl
+while-clear p (x ∷ xs) h e =
+    test (p x) (λ q. rw (h x q) (while-clear p xs h (rw q at e))) (λ q. rw q at e)
+
 pub count-clear : (v : List ℕ) → isCount v ≡ true → all nonZero v ≡ true
 unfolding isCount
-count-clear v e = digits-clear v e
+count-clear v e =
+    while-clear isSpace v space-nonZero
+    (digits-clear _ (and-both (leb 1 (length (dropWhile isSpace v))) (all isDigit (dropWhile isSpace v)) e .1))
 
 digitsTo-clear : (most : ℕ) (v : List ℕ) → digitsTo most v ≡ true → all nonZero v ≡ true
 unfolding digitsTo
@@ -65,12 +73,6 @@ date-clear v e =
     digits-clear v (and-both (all isDigit v) year (k .0) .0)
 
 -- ---- offset
-
-while-clear : (p : ℕ → Bool) (v : List ℕ) → ((x : ℕ) → p x ≡ true → nonZero x ≡ true) → all nonZero (dropWhile p v) ≡ true → all nonZero v ≡ true
-unfolding dropWhile all
-while-clear p [] h e = refl
-while-clear p (x ∷ xs) h e =
-    test (p x) (λ q. rw (h x q) (while-clear p xs h (rw q at e))) (λ q. rw q at e)
 
 point-clear : (v : List ℕ) → all nonZero (pointPassed v) ≡ true → all nonZero v ≡ true
 unfolding pointPassed all nonZero isZero

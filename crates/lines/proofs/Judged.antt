@@ -9,13 +9,13 @@ use Prim.Native.Nat.{ℕ, zero, suc, _+_, _-_, _*_, _^_, _≤_, _<_}
 use mathlib.Core.Bool.{Bool, true, false, _&&_, _||_}
 use mathlib.Core.Path.{_≡_, refl, sym, ap, _∙_}
 use mathlib.Core.List.{List, [], _∷_, _++_}
-use native.Mathlib.Nat.{mul-le-mul-right, mul-assoc, mul-one, one-mul, pow-succ'}
+use native.Mathlib.Nat.{pow-le-pow-right, mul-le-mul-right, mul-assoc, mul-one, one-mul, pow-succ'}
 use native.Mathlib.Omega.{arith}
 use lib.Dec.{leb, eqb}
 use lib.ListN.{length, take, drop, length-drop}
 use lib.Seq.{drop-drop, take-take, length-take-le}
 use borrow.Author.Tests.{eqb-true, eqb-false, leb-true, le-leb}
-use Rattle.metafile.specs.Fields.{isDigit, numberFrom, number, isCount, countValue}
+use Rattle.metafile.specs.Fields.{isDigit, numberFrom, number, isSpace, dropWhile, isCount, countValue}
 use Rattle.metafile.specs.Bytes.{bytes, part, all, _⊳_, require, same, member}
 use Rattle.metafile.specs.Lines.{LLC, NUL, strategy, stamp, fieldFault, countFault, serialFault, wordFault, stampFault, freeFault, kindFault}
 use Rattle.table.specs.declared.Kind.{Kind as Code}
@@ -26,6 +26,7 @@ use Rattle.table.proofs.Lines.{kind-is, checksum-small}
 use Rattle.laws.proofs.First.{test, and-both, or-left, or-right, ⊳-stop, ⊳-go, or-none}
 use Rattle.laws.proofs.Lists.{same-eq}
 use Rattle.laws.proofs.Table.{field-short, field-long, field-enough}
+use Rattle.fields.proofs.Prefix.{rest-le}
 use Rattle.lines.specs.Words.{wordNo}
 
 -- ---- numbers in n digits
@@ -43,10 +44,14 @@ from-below acc (x ∷ v) e =
     = mul-assoc (acc + 1) 10 (10 ^ length v) ∙ ap (λ (y : ℕ). (acc + 1) * y) (sym (pow-succ' 10 (length v))) in
     omega (arith, next, k, p)
 
--- digits come to no more than as many nines
+-- digits come to no more than as many nines, and so with spaces in front
 pub count-below : (n : ℕ) (v : List ℕ) → length v ≡ n → isCount v ≡ true → countValue v ≤ 10 ^ n - 1
 unfolding isCount countValue number
-count-below n v l e = rw (← l) (omega (arith, from-below 0 v e, one-mul (10 ^ length v)))
+count-below n v l e =
+    let d : List ℕ = dropWhile isSpace v in
+    let below = from-below 0 d (and-both (leb 1 (length d)) (all isDigit d) e .1) in
+    let few : 10 ^ length d ≤ 10 ^ n = pow-le-pow-right {n = 10} (omega arith) {i = length d} {j = n} (rw (← l) (rest-le isSpace v)) in
+    omega (arith, below, few, one-mul (10 ^ length d))
 
 pub number-judged : (n : ℕ) (v : List ℕ) → length v ≡ n → (b : Bool) → b ≡ isCount v → require b 6 ≡ countFault (10 ^ n - 1) v
 unfolding countFault

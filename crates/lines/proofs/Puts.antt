@@ -14,7 +14,7 @@ use native.Mathlib.Omega.{arith}
 use native.Mathlib.Nat.{le-of-eq}
 use lib.Dec.{eqb}
 use lib.ListN.{length, take, drop, set, length-append, length-take, length-drop, take-append-drop, drop-of-length-le}
-use lib.Seq.{length-take-le, take-length, take-add, drop-at, drop-drop, drop-append-le, take-append-add, take-append-seam, take-set-le, set-split}
+use lib.Seq.{length-take-le, take-length, drop-at, drop-drop, drop-append-le, take-append-add, take-append-seam, take-set-le, set-split}
 use borrow.Author.Tests.{eq-eqb, ne-eqb}
 use Rattle.metafile.specs.Bytes.{part, sum}
 use Rattle.metafile.specs.Fields.{digitsOf}
@@ -22,6 +22,7 @@ use Rattle.metafile.specs.Lines.{Kind, Field, fixed, value, Line, lf, opened, l
 use Rattle.metafile.specs.Closing.{integrityLines, summed, unsummed}
 use Rattle.metafile.specs.Answers.{placed}
 use Rattle.table.specs.Codes.{lineNo, linesFrom}
+use Rattle.laws.proofs.Lists.{drop-take}
 use Rattle.laws.proofs.Digits.{length-digitsOf}
 use Rattle.laws.proofs.Table.{kind-local, size-split, write-split, lefts}
 use Rattle.laws.proofs.Loops.{part-drop, placed-length, placed-placed, placed-nothing, put-more}
@@ -247,15 +248,12 @@ pub checksum-label : length (lineNo 21 .label) ≡ 25
 unfolding lines
 checksum-label = rw checksum-is
 
-drop-take : (p n : ℕ) (b : List ℕ) → p ≤ length b → drop p (take (p + n) b) ≡ take n (drop p b)
-drop-take p n b h = rw (take-add p n b, drop-at (take p b) (take n (drop p b)) p (length-take-le p b h))
-
 -- the bytes that a sum covers: those before what was put, and what was put
 placed-part : (from at : ℕ) (v b : List ℕ) → from ≤ at → at ≤ length b → take (at + length v - from) (drop from (placed at v b)) ≡ part from (at - from) b ++ v
 unfolding placed
 placed-part from at v b h l =
     let n : at ≡ from + (at - from) = omega arith in
-    let cut : drop from (take at b) ≡ part from (at - from) b = ap (λ (k : ℕ). drop from (take k b)) n ∙ drop-take from (at - from) b (omega arith) in
+    let cut : drop from (take at b) ≡ part from (at - from) b = ap (λ (k : ℕ). drop from (take k b)) n ∙ drop-take from (at - from) b in
     let long : length (part from (at - from) b) ≡ at - from = length-take-le (at - from) (drop from b) (simp length-drop (omega arith)) in
     let count : at + length v - from ≡ length (part from (at - from) b) + length v = omega arith in
     rw (drop-append-le from (take at b) (v ++ drop (at + length v) b) (simp length-take (omega arith)), cut, count, take-append-add (part from (at - from) b) (v ++ drop (at + length v) b) (length v), take-append-seam v (drop (at + length v) b))

@@ -23,7 +23,7 @@ pub fn verdict(good: bool, number: u8) -> u8
 
 // ---- one field
 
-// n digits, which come to at most n nines
+// a count of n bytes, which comes to at most n nines
 pub fn number_fault(s: &[u8], at: usize, n: usize) -> u8
     requires { ⌜ at ≤ length (now s) ⌝ }
     ensures { λ r. ⌜ r ≡ fieldFault n (countFault (10 ^ n - 1)) (drop at (now (s .entry))) ⌝ }
@@ -34,7 +34,7 @@ pub fn number_fault(s: &[u8], at: usize, n: usize) -> u8
     verdict(fields::is_count(&s[at..at + n]), refusals::FORM)
 }
 
-// n digits that come to at most so much
+// a count of n bytes that comes to at most so much
 pub fn count_fault(s: &[u8], at: usize, n: usize, most: u64) -> u8
     requires { ⌜ (at ≤ length (now s)) × (n ≤ 12) ⌝ }
     ensures { λ r. ⌜ r ≡ fieldFault n (countFault most) (drop at (now (s .entry))) ⌝ }

@@ -4,6 +4,7 @@
 -- Joint         the starred cases of the paper, as one theorem
 -- NoBytes       a file of no bytes
 -- ThreeEndings  how the end of a chunk was found
+-- SpacesInFront numbers with spaces in front, and one serial number under two writings of its check
 -- Given         a text that is given, and what append sees of it
 pub mod Computed
 pub mod Samples
@@ -11,4 +12,5 @@ pub mod Cuts
 pub mod Joint
 pub mod NoBytes
 pub mod ThreeEndings
+pub mod SpacesInFront
 pub mod Given

@@ -29,12 +29,25 @@ unfoldable pub digitsOf : ℕ → ℕ → List ℕ
 digitsOf zero x = []
 digitsOf (suc n) x = digitsOf n (x / 10) ++ (48 + x % 10) ∷ []
 
--- lengths, counts, the mark length and the two checks: the same for now, apart because recorders may pad them
+-- ---- "lengths, counts, the mark length and the two checks may have leading spaces before at least one digit"
+
+unfoldable pub isSpace : ℕ → Bool
+isSpace x = eqb x 32
+
+-- the longest beginning of bytes that pass a test, and what follows it
+unfoldable pub takeWhile : (ℕ → Bool) → List ℕ → List ℕ
+takeWhile p [] = []
+takeWhile p (x ∷ xs) = cond (p x) (x ∷ takeWhile p xs) []
+
+unfoldable pub dropWhile : (ℕ → Bool) → List ℕ → List ℕ
+dropWhile p [] = []
+dropWhile p (x ∷ xs) = cond (p x) (dropWhile p xs) (x ∷ xs)
+
 unfoldable pub isCount : List ℕ → Bool
-isCount v = all isDigit v
+isCount v = leb 1 (length (dropWhile isSpace v)) && all isDigit (dropWhile isSpace v)
 
 unfoldable pub countValue : List ℕ → ℕ
-countValue v = number v
+countValue v = number (dropWhile isSpace v)
 
 -- ---- "A text field An is n bytes from 32 to 126; a shorter given text is padded on the right with spaces."
 
@@ -67,18 +80,6 @@ unfoldable pub isDate : List ℕ → Bool
 isDate v = all isDigit v && leb 1 (yearOf v) && leb 1 (dayOf v) && leb (dayOf v) (monthDays (yearOf v) (monthOf v))
 
 -- ---- "Offset: sign + or -, I2 hours to 23, I2 minutes to 59, N11 seconds below 60."
-
-unfoldable pub isSpace : ℕ → Bool
-isSpace x = eqb x 32
-
--- the longest beginning of bytes that pass a test, and what follows it
-unfoldable pub takeWhile : (ℕ → Bool) → List ℕ → List ℕ
-takeWhile p [] = []
-takeWhile p (x ∷ xs) = cond (p x) (x ∷ takeWhile p xs) []
-
-unfoldable pub dropWhile : (ℕ → Bool) → List ℕ → List ℕ
-dropWhile p [] = []
-dropWhile p (x ∷ xs) = cond (p x) (dropWhile p xs) (x ∷ xs)
 
 -- what follows a point, where one stands first
 unfoldable pub pointPassed : List ℕ → List ℕ
@@ -145,9 +146,9 @@ isSerial v =
     && isCount (part 35 3 v)
     && eqb (countValue (part 35 3 v)) (sum (take 35 v))
 
--- equality of serial numbers: all 38 bytes for now
+-- "serials are compared by their first 35 bytes", since "a check may now be written in several ways"
 unfoldable pub sameSerial : List ℕ → List ℕ → Bool
-sameSerial x y = same x y
+sameSerial x y = same (take 35 x) (take 35 y)
 
 -- a serial number among others
 unfoldable pub known : List ℕ → List (List ℕ) → Bool

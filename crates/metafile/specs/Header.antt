@@ -24,7 +24,7 @@ markLength file = countValue (part 61 3 file)
 unfoldable pub markOf : List ℕ → List ℕ
 markOf file = part 65 (markLength file) file
 
--- "1 first 65 bytes don't match", "2 NUL000 (tape)"
+-- "1 first 65 bytes don't match", "2 NUL000 (tape)", "NUL with 0 in any form is 2"
 unfoldable pub titleFault : List ℕ → ℕ
 titleFault v = require (isZero (run title v)) 1 ⊳ require (isLLC v || not (isZero (markLength v))) 2
 

@@ -44,7 +44,7 @@ MAS = bytes "MAS"
 
 -- what a value may be
 pub data Kind : Type 0 where
-  count : ℕ → ℕ → Kind  -- In: so many bytes, at most so much
+  count : ℕ → ℕ → Kind  -- In that may have leading spaces: so many bytes, at most so much
   text : ℕ → Kind  -- An
   date : Kind
   offset : Kind

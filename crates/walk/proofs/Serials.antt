@@ -24,7 +24,7 @@ use Rattle.metafile.specs.Reading.{serialsOf}
 use Rattle.metafile.specs.Append.{noRow, rowNo}
 use Rattle.metafile.specs.Calls.{rowWith}
 use Rattle.laws.proofs.First.{test, untrue, or-false, or-none}
-use Rattle.laws.proofs.Lists.{same-eq}
+use Rattle.laws.proofs.SameSerial.{serial-swap}
 use Rattle.chunk_laws.proofs.Rows.{past}
 use Rattle.chunk_laws.proofs.Serials.{fresh, rowWith-self}
 use Rattle.chunk_laws.proofs.Places.{Placed, placed-end}
@@ -94,10 +94,15 @@ module _ (x : List ℕ) where
       (λ q. rw q (lt-ltb _ _ (with-before rows i q)))
       (λ q. rw q (le-ltb _ _ (with-least rows i h q)))
 
+  -- the same serial number is in the same row
+  with-same : (y : List ℕ) → sameSerial x y ≡ true → (rows : List Row) → rowWith x rows ≡ rowWith y rows
+  unfolding rowWith
+  with-same y q [] = refl
+  with-same y q (r ∷ rs) = rw (serial-swap x y (r .serial) q, with-same y q rs)
+
   -- a row that has it is that row, whatever stands before it
   pub with-only : (rows : List Row) (i : ℕ) → i < length rows → fresh [] rows ≡ true → sameSerial x (rowNo rows i .serial) ≡ true → rowWith x rows ≡ i
-  unfolding sameSerial
-  with-only rows i h f q = rw (same-eq x (rowNo rows i .serial) q) (rowWith-self rows [] i h f)
+  with-only rows i h f q = with-same (rowNo rows i .serial) q rows ∙ rowWith-self rows [] i h f
 
   pub with-other : (rows : List Row) (i : ℕ) → i < length rows → sameSerial x (rowNo rows i .serial) ≡ false → rowWith x rows ≡ i → ⊥
   unfolding rowWith rowNo

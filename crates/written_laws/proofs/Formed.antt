@@ -29,9 +29,10 @@ use Rattle.chunk_laws.proofs.Places.{row-placed, serial-taken, subFormat-taken}
 use Rattle.written_laws.specs.Taken.{Taken}
 
 -- a label, and a number in n digits
-line-formed : (label : List ℕ) (n most x : ℕ) (fs : List Field) (vs : List (List ℕ)) → x < 10 ^ n → x ≤ most
+line-formed : (label : List ℕ) (n most x : ℕ) (fs : List Field) (vs : List (List ℕ)) → 0 < n → x < 10 ^ n → x ≤ most
     → formed (fixed label ∷ value (count n most) ∷ fs) (digitsOf n x ∷ vs) ≡ formed fs vs
-line-formed label n most x fs vs h l = fixed-formed label (value (count n most) ∷ fs) (digitsOf n x ∷ vs) ∙ count-formed n most x fs vs h l
+line-formed label n most x fs vs some h l =
+    fixed-formed label (value (count n most) ∷ fs) (digitsOf n x ∷ vs) ∙ count-formed n most x fs vs some h l
 
 -- ---- the head: two lengths and a count, and the lines given between them
 
@@ -52,14 +53,14 @@ formed-head old g a =
     let more : List (List ℕ) = digitsOf 12 (29 + 344 * n) ∷ digitsOf 4 n ∷ [] in
     let behind : List Field = opened dependencyLength ++ lf ∷ opened dependencyCount in
     let values : List (List ℕ) = givenValues (g .description) ++ more in
-    line-formed (chunkHeaderLength .label) 12 999999999999 (536 + 344 * n + length (g .specific)) (lf ∷ linesOf givenLines ++ behind) values (omega arith) (omega arith)
+    line-formed (chunkHeaderLength .label) 12 999999999999 (536 + 344 * n + length (g .specific)) (lf ∷ linesOf givenLines ++ behind) values (omega arith) (omega arith) (omega arith)
     ∙ fixed-formed (10 ∷ []) (linesOf givenLines ++ behind) values
     ∙ formed-split (linesOf givenLines) behind values
     ∙ both-and _ _ (given-first (g .description) more ∙ a .in-given)
     (ap (formed behind) (given-leaves (g .description) more)
-    ∙ line-formed (dependencyLength .label) 12 999999999999 (29 + 344 * n) (lf ∷ opened dependencyCount) (digitsOf 4 n ∷ []) (omega arith) (omega arith)
+    ∙ line-formed (dependencyLength .label) 12 999999999999 (29 + 344 * n) (lf ∷ opened dependencyCount) (digitsOf 4 n ∷ []) (omega arith) (omega arith) (omega arith)
     ∙ fixed-formed (10 ∷ []) (opened dependencyCount) (digitsOf 4 n ∷ [])
-    ∙ line-formed (dependencyCount .label) 4 9999 n [] [] (omega arith) (omega arith)
+    ∙ line-formed (dependencyCount .label) 4 9999 n [] [] (omega arith) (omega arith) (omega arith)
     ∙ (unfold formed in refl))
 
 -- ---- what is copied from parents
@@ -112,7 +113,7 @@ pub formed-line : (old : List ℕ) (g : Given) → Taken old g → formed (lines
 unfolding lines
 formed-line old g a =
     let fits-it = count-fits (g .isOpen) (g .contents) (a .contents-small) in
-    line-formed (contentLength .label) 12 999999999999 (contentCountFor (g .isOpen) (g .contents)) (lf ∷ []) [] (omega arith) (omega arith)
+    line-formed (contentLength .label) 12 999999999999 (contentCountFor (g .isOpen) (g .contents)) (lf ∷ []) [] (omega arith) (omega arith) (omega arith)
     ∙ fixed-formed (10 ∷ []) [] []
     ∙ (unfold formed in refl)
 

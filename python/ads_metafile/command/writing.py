@@ -92,6 +92,6 @@ def append_hint(number: int, file: LockedFile, given: Values) -> str | None:
     if number == NO_ROW:
         return f"parents are at most 16 different rows; {rows_there(read(file.read()))}"
     if number == REPEATED:
-        row = read(file.read()).by_serial(given["serial"]).index
-        return f"row {row:,} has {os.fsdecode(given['serial'])}; give another one, or --serial auto"
+        row = read(file.read()).by_serial(given["serial"])
+        return f"row {row.index:,} has {row.serial}; give another one, or --serial auto"
     return APPEND_HINTS.get(number)

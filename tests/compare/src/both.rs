@@ -76,7 +76,7 @@ impl Run {
         self.same(|| format!("read into {room} rows"), proved, plain, file, plain.stop);
         for (number, row) in rows[..plain.count].iter().enumerate() {
             self.same(|| format!("row {number}"), table.row(number), *row, file, row.place);
-            self.tally.note_row(row.ending);
+            self.tally.note_row(row);
         }
         self.demand(table.untouched_from(plain.count), "proved: a row past the count is written", file, plain.stop);
         self.demand(

@@ -3,6 +3,8 @@
 
 use plain::{Ending, Row, Serial};
 
+use crate::random::Random;
+
 #[derive(Clone, Copy, Debug, PartialEq, Eq)]
 pub enum Kind {
     Title,
@@ -102,15 +104,28 @@ pub struct File {
     pub nul: bool,
     pub header_end: usize,
     pub header_good: bool,
+    /// How lengths, counts and checks get spaces in front; without it numbers are filled with zeros, and serial numbers
+    /// stand as they are given.
+    padding: Option<Random>,
 }
 
 impl File {
     pub fn new(nul: bool, mark: &[u8], closing: &Closing) -> Self {
-        let mut file = File { mark: mark.to_vec(), nul, ..File::default() };
-        let word = if nul { "NUL" } else { "LLC" };
-        let length = mark.len();
-        let title = format!("Format_ID=Ancillary Data Standard 1.00\nSeparator_Strategy={word}{length:03}\n");
-        file.field(Kind::Title, title.as_bytes());
+        File::start(nul, mark, closing, None)
+    }
+
+    /// Every number that may have spaces in front has as many as `random` says, down to its last digit.
+    pub fn padded(nul: bool, mark: &[u8], closing: &Closing, random: Random) -> Self {
+        File::start(nul, mark, closing, Some(random))
+    }
+
+    fn start(nul: bool, mark: &[u8], closing: &Closing, padding: Option<Random>) -> Self {
+        let mut file = File { mark: mark.to_vec(), nul, padding, ..File::default() };
+        let mut title = b"Format_ID=Ancillary Data Standard 1.00\nSeparator_Strategy=".to_vec();
+        title.extend(if nul { b"NUL" } else { b"LLC" });
+        title.extend(file.number(mark.len(), 3));
+        title.push(b'\n');
+        file.field(Kind::Title, &title);
         file.header_good = file.closing(0, Kind::FirstMark, closing, Kind::Serial);
         file.header_end = file.bytes.len();
         file
@@ -129,15 +144,42 @@ impl File {
         self.field(Kind::Lf, b"\n");
     }
 
+    /// A number in so many bytes.
+    fn number(&mut self, value: usize, width: usize) -> Vec<u8> {
+        let mut bytes = format!("{value:0width$}").into_bytes();
+        if let Some(random) = &mut self.padding {
+            pad(&mut bytes, random);
+        }
+        bytes
+    }
+
+    /// A serial number, its check written as the file writes numbers.
+    fn serial(&mut self, serial: &Serial) -> Serial {
+        let mut serial = *serial;
+        if let Some(random) = &mut self.padding {
+            pad(&mut serial[35..], random);
+        }
+        serial
+    }
+
+    fn number_line(&mut self, label: &str, kind: Kind, value: usize, width: usize) {
+        let bytes = self.number(value, width);
+        self.line(label, kind, &bytes);
+    }
+
     fn length(&mut self, label: &str, kind: Kind, value: usize) {
-        self.line(label, kind, format!("{value:012}").as_bytes());
+        self.number_line(label, kind, value, 12);
     }
 
     fn word_line(&mut self, label: &str, word: &[u8; 3], serial: &Serial) {
         self.field(Kind::Label, label.as_bytes());
         self.field(Kind::Word, word);
-        let linked = [b"ALT", b"SLV", b"MAS"].contains(&word);
-        self.field(if linked { Kind::Serial } else { Kind::Free }, serial);
+        if [b"ALT", b"SLV", b"MAS"].contains(&word) {
+            let serial = self.serial(serial);
+            self.field(Kind::Serial, &serial);
+        } else {
+            self.field(Kind::Free, serial);
+        }
         self.field(Kind::Lf, b"\n");
     }
 
@@ -152,15 +194,16 @@ impl File {
     fn closing(&mut self, from: usize, first_mark: Kind, closing: &Closing, serial: Kind) -> bool {
         let mark = self.mark.clone();
         self.field(first_mark, &mark);
-        self.line("Chunk_Serial_Number=", serial, &closing.serial);
+        let own = self.serial(&closing.serial);
+        self.line("Chunk_Serial_Number=", serial, &own);
         self.line("Chunk_Recording_Date=", Kind::Date, &closing.recorded);
         self.line("Chunk_Recording_Agent=", Kind::Text, &filled(&closing.recorder, 32));
         self.line("Chunk_Writing_Date=", Kind::Date, &closing.written);
         self.line("Chunk_Writing_Agent=", Kind::Text, &filled(&closing.writer, 32));
         self.field(Kind::Label, b"Chunk_Integrity_Checksum=");
         let sum: u64 = self.bytes[from..].iter().map(|&byte| u64::from(byte)).sum();
-        let stated = (sum + u64::from(closing.sum_off)) % 256;
-        self.field(Kind::Checksum, format!("{stated:03}").as_bytes());
+        let stated = self.number(((sum + u64::from(closing.sum_off)) % 256) as usize, 3);
+        self.field(Kind::Checksum, &stated);
         self.field(Kind::Lf, b"\n");
         self.field(Kind::Mark, &mark);
         closing.sum_off == 0
@@ -175,9 +218,10 @@ impl File {
         self.line("Generic_Type=", Kind::Word, &chunk.generic);
         self.times(&chunk.times);
         self.length("Chunk_Dependency_Length=", Kind::DependencyLength, 29 + 344 * n);
-        self.line("Chunk_Dependency_Count=", Kind::DependencyCount, format!("{n:04}").as_bytes());
+        self.number_line("Chunk_Dependency_Count=", Kind::DependencyCount, n, 4);
         for (serial, sub_format) in &chunk.dependencies {
-            self.line("Dependency_Serial_Number=", Kind::Serial, serial);
+            let serial = self.serial(serial);
+            self.line("Dependency_Serial_Number=", Kind::Serial, &serial);
             self.line("Dependency_SubFormatID=", Kind::Text, &filled(sub_format, 256));
         }
         self.field(Kind::Free, &chunk.specific);
@@ -185,9 +229,10 @@ impl File {
         let end = self.bytes.len();
         let mark = if ending == Ending::Found { Kind::OpenMark } else { Kind::Mark };
         let good = self.closing(place, mark, &chunk.closing, Kind::OwnSerial);
+        let serial = end + self.mark.len() + 20;
         let counts = chunk.times.synch == *b"GEN" && chunk.times.standard != *b"NUL";
         self.rows.push(Row {
-            serial: chunk.closing.serial,
+            serial: self.bytes[serial..serial + 38].try_into().expect("38 bytes"),
             place,
             header,
             contents,
@@ -219,7 +264,7 @@ impl File {
         let place = self.bytes.len();
         let length: usize = types.iter().map(|of| 518 + of.specific.len()).sum();
         self.length("Multi_Chunk_Header_Length=", Kind::MultiLength, 27 + length);
-        self.line("MiniChunk_Type_Count=", Kind::TypeCount, format!("{:04}", types.len()).as_bytes());
+        self.number_line("MiniChunk_Type_Count=", Kind::TypeCount, types.len(), 4);
         for of in types {
             self.length("SubType_Header_Length=", Kind::SubTypeLength, 484 + of.specific.len());
             self.line("SubFormat_ID=", Kind::Text, &filled(&of.sub_format, 256));
@@ -230,11 +275,28 @@ impl File {
         for (of, data) in minis {
             self.field(Kind::MiniLabel, b"MiniChunk=");
             self.field(Kind::MiniId, &types[*of].id);
-            self.field(Kind::MiniLength, format!("{:012}", data.len()).as_bytes());
+            let length = self.number(data.len(), 12);
+            self.field(Kind::MiniLength, &length);
             self.field(Kind::Data, data);
         }
         place
     }
+}
+
+/// Spaces for some, all or none of the zeros in front; the last digit stays.
+pub fn pad(digits: &mut [u8], random: &mut Random) {
+    let zeros = zeros(digits);
+    digits[..random.between(0, zeros)].fill(b' ');
+}
+
+/// Spaces for all of them.
+pub fn spaces(digits: &mut [u8]) {
+    let zeros = zeros(digits);
+    digits[..zeros].fill(b' ');
+}
+
+fn zeros(digits: &[u8]) -> usize {
+    digits[..digits.len() - 1].iter().take_while(|digit| b" 0".contains(digit)).count()
 }
 
 /// A text with spaces on its right.

@@ -1,7 +1,7 @@
 //! Damages: for each kind of field, every way in which it can be wrong that has its own number.
 
-use crate::build::{Kind, Span};
-use crate::generate::with_check;
+use crate::build::{spaces, Kind, Span};
+use crate::generate::{otherwise, with_check};
 use crate::random::Random;
 
 /// A damage of one field: its name, the number that a reading must give if nothing else is wrong (none where it depends on
@@ -33,9 +33,12 @@ fn serial(file: &mut [u8], span: Span, at: usize, bytes: &[u8]) {
     field.copy_from_slice(&checked);
 }
 
+fn value(digits: &[u8]) -> i64 {
+    String::from_utf8_lossy(digits).trim_start().parse().unwrap_or(0)
+}
+
 fn number(file: &mut [u8], span: Span, change: i64) {
-    let text = String::from_utf8_lossy(&file[span.start..span.end]);
-    let value: i64 = text.parse().unwrap_or(0);
+    let value = value(&file[span.start..span.end]);
     let width = span.end - span.start;
     let value = format!("{:0width$}", (value + change).max(0));
     put(file, span, 0, &value.as_bytes()[value.len() - width..]);
@@ -66,10 +69,15 @@ const TITLE: &[Way] = &[
     way("first LF", 1, |f, s, _| put(f, s, 38, b"\r")),
     way("second label", 1, |f, s, _| put(f, s, 57, b":")),
     way("strategy", 1, |f, s, _| put(f, s, 58, b"llc")),
-    way("mark length", 1, |f, s, r| put(f, s, 61 + r.below(3), b" ")),
+    way("mark length of spaces", 1, |f, s, _| put(f, s, 61, b"   ")),
+    way("mark length, a space behind", 1, |f, s, _| put(f, s, 63, b" ")),
+    way("mark length, a space inside", 1, |f, s, _| put(f, s, 61, b"0 ")),
+    way("mark length, a sign", 1, |f, s, r| put(f, s, 61, &[r.pick(b"+-")])),
+    way("mark length, a tab", 1, |f, s, _| put(f, s, 61, b"\t")),
+    way("mark length, spaces in front", 0, |f, s, _| spaces(&mut f[s.start + 61..s.start + 64])),
     way("last LF", 1, |f, s, _| put(f, s, 64, b" ")),
     way("any byte", 1, |f, s, r| f[s.start + r.below(58)] ^= 0x40),
-    way("tape", 2, |f, s, _| put(f, s, 58, b"NUL000")),
+    way("tape", 2, |f, s, r| put(f, s, 58, &r.pick(&[*b"NUL000", *b"NUL 00", *b"NUL  0"]))),
     any("LLC", |f, s, _| put(f, s, 58, b"LLC")),
     any("NUL", |f, s, _| put(f, s, 58, b"NUL")),
     any("longer mark", |f, s, r| put(f, s, 61 + r.below(3), b"9")),
@@ -144,27 +152,42 @@ const SERIAL: &[Way] = &[
     way("processor 127", 6, |f, s, _| serial(f, s, 29, &[127])),
     way("random 65536", 6, |f, s, _| serial(f, s, 30, b"65536")),
     way("random no digits", 6, |f, s, _| serial(f, s, 30, b"1234x")),
+    way("random, a space in front", 6, |f, s, _| serial(f, s, 30, b" 0042")),
+    way("hour, a space in front", 6, |f, s, _| serial(f, s, 9, b" 7")),
     way("check off by one", 6, |f, s, _| {
-        let check = String::from_utf8_lossy(&f[s.end - 3..s.end]).parse().unwrap_or(0);
+        let check = value(&f[s.end - 3..s.end]);
         put(f, s, 35, format!("{:03}", (check + 1) % 256).as_bytes());
     }),
     way("check 256 more", 6, |f, s, _| {
-        let check = String::from_utf8_lossy(&f[s.end - 3..s.end]).parse().unwrap_or(0);
+        let check = value(&f[s.end - 3..s.end]);
         put(f, s, 35, format!("{:03}", check + 256).as_bytes());
     }),
-    way("check no digits", 6, |f, s, _| put(f, s, 35, b"   ")),
+    way("check of spaces", 6, |f, s, _| put(f, s, 35, b"   ")),
+    way("check, a space behind", 6, |f, s, _| put(f, s, 37, b" ")),
+    way("check, a space inside", 6, |f, s, _| put(f, s, 35, b"0 ")),
+    way("check, a tab", 6, |f, s, _| put(f, s, 35, b"\t")),
+    way("check, spaces in front", 0, |f, s, _| spaces(&mut f[s.end - 3..s.end])),
     any("random 65535", |f, s, _| serial(f, s, 30, b"65535")),
 ];
 
 /// The serial number of an earlier chunk, where there is one.
-const OWN_SERIAL: &[Way] = &[any("an earlier one", |f, s, _| {
+fn earlier(file: &mut [u8], span: Span) {
     let label = b"Chunk_Serial_Number=";
-    let mut places = (0..s.start - label.len()).rev().filter(|&at| f[at..].starts_with(label));
+    let mut places = (0..span.start - label.len()).rev().filter(|&at| file[at..].starts_with(label));
     if let Some(at) = places.next() {
-        let earlier = f[at + label.len()..][..38].to_vec();
-        put(f, s, 0, &earlier);
+        let earlier = file[at + label.len()..][..38].to_vec();
+        put(file, span, 0, &earlier);
     }
-})];
+}
+
+const OWN_SERIAL: &[Way] = &[
+    any("an earlier one", |f, s, _| earlier(f, s)),
+    any("an earlier one, its check written otherwise", |f, s, _| {
+        earlier(f, s);
+        let other = otherwise(f[s.start..s.end].try_into().expect("38 bytes"));
+        put(f, s, 0, &other);
+    }),
+];
 
 const OFFSET: &[Way] = &[
     way("sign", 6, |f, s, _| put(f, s, 0, b" ")),
@@ -185,8 +208,16 @@ const OFFSET: &[Way] = &[
 ];
 
 const DIGITS: &[Way] = &[
-    way("a space", 6, |f, s, _| f[s.start] = b' '),
+    way("spaces in front", 0, |f, s, _| spaces(&mut f[s.start..s.end])),
+    way("spaces only", 6, |f, s, _| f[s.start..s.end].fill(b' ')),
+    way("a space behind", 6, |f, s, _| f[s.end - 1] = b' '),
+    way("a space inside", 6, |f, s, _| put(f, s, s.end - s.start - 3, b"0 ")),
     way("a sign", 6, |f, s, _| f[s.start] = b'+'),
+    way("a sign behind spaces", 6, |f, s, r| {
+        f[s.start..s.end - 1].fill(b' ');
+        f[s.end - 2] = r.pick(b"+-");
+    }),
+    way("a tab", 6, |f, s, _| f[s.start] = b'\t'),
     way("no digit", 6, |f, s, r| {
         let byte = r.pick(b"/:\0x");
         f[r.between(s.start, s.end - 1)] = byte;
@@ -252,7 +283,7 @@ const CHECKSUM: &[Way] = &[
     way("256", 6, |f, s, _| put(f, s, 0, b"256")),
     way("999", 6, |f, s, _| put(f, s, 0, b"999")),
     way("another", 0, |f, s, _| {
-        let sum = String::from_utf8_lossy(&f[s.start..s.end]).parse().unwrap_or(0);
+        let sum = value(&f[s.start..s.end]);
         put(f, s, 0, format!("{:03}", (sum + 1) % 256).as_bytes());
     }),
     way("255", 0, |f, s, _| put(f, s, 0, b"255")),

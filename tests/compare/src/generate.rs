@@ -2,12 +2,12 @@
 
 use plain::Serial;
 
-use crate::build::{Chunk, Closing, Contents, File, Times, Type};
+use crate::build::{pad, spaces, Chunk, Closing, Contents, File, Times, Type};
 use crate::random::Random;
 
 pub const MULTI_CHUNK: &[u8] = b"ADS\\SYS\\MultiChunk";
 
-/// A serial number; with few seeds it is soon repeated.
+/// A serial number, its check now and then with spaces in front.
 pub fn serial(random: &mut Random) -> Serial {
     let processor: Vec<u8> = match random.below(3) {
         0 => b"SURVEYDESK01".to_vec(),
@@ -23,7 +23,11 @@ pub fn serial(random: &mut Random) -> Serial {
     bytes.extend(processor);
     let number = if random.one_in(8) { 65535 } else { random.below(65536) };
     bytes.extend(format!("{number:05}").bytes());
-    with_check(bytes.try_into().expect("35 bytes"))
+    let mut serial = with_check(bytes.try_into().expect("35 bytes"));
+    if random.one_in(4) {
+        pad(&mut serial[35..], random);
+    }
+    serial
 }
 
 /// The first 35 bytes and their check.
@@ -33,6 +37,20 @@ pub fn with_check(first: [u8; 35]) -> Serial {
     serial[..35].copy_from_slice(&first);
     serial[35..].copy_from_slice(format!("{:03}", sum % 256).as_bytes());
     serial
+}
+
+/// "serials are compared by their first 35 bytes"
+pub fn same_serial(a: &[u8], b: &[u8]) -> bool {
+    a[..35] == b[..35]
+}
+
+/// The same serial number with its check written otherwise, where that is below 100: spaces for zeros, or zeros for spaces.
+pub fn otherwise(serial: &Serial) -> Serial {
+    let mut other = with_check(serial[..35].try_into().expect("35 bytes"));
+    if other == *serial {
+        spaces(&mut other[35..]);
+    }
+    other
 }
 
 pub fn date(random: &mut Random) -> [u8; 8] {
@@ -239,10 +257,14 @@ pub fn chunk(random: &mut Random, file: &File, later: &Serial) -> Chunk {
     }
 }
 
-/// A valid file with so many chunks.
+/// A valid file with so many chunks; in half of them, by chance, numbers have spaces in front.
 pub fn file(random: &mut Random, nul: bool, chunks: usize) -> File {
     let mark = mark(random, nul);
-    let mut file = File::new(nul, &mark, &closing(random));
+    let first = closing(random);
+    let mut file = match random.one_in(2) {
+        true => File::padded(nul, &mark, &first, random.clone()),
+        false => File::new(nul, &mark, &first),
+    };
     let mut later = serial(random);
     for _ in 0..chunks {
         let mut next = chunk(random, &file, &later);
@@ -250,7 +272,7 @@ pub fn file(random: &mut Random, nul: bool, chunks: usize) -> File {
             next.closing.serial = later;
             later = serial(random);
         }
-        if file.rows.iter().all(|row| row.serial != next.closing.serial) {
+        if file.rows.iter().all(|row| !same_serial(&row.serial, &next.closing.serial)) {
             file.push(&next);
         }
     }

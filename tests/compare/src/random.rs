@@ -1,5 +1,6 @@
 //! A seeded generator of numbers (splitmix64), so that every run makes the same cases.
 
+#[derive(Clone)]
 pub struct Random(u64);
 
 impl Random {

@@ -1,6 +1,6 @@
-//! How often each number of each call arose, and each ending of a row.
+//! How often each number of each call arose, each ending of a row, and a check with spaces in front.
 
-use plain::Ending;
+use plain::Row;
 
 #[derive(Clone, Copy, Debug)]
 pub enum Call {
@@ -28,6 +28,7 @@ const CALLS: [(&str, &[u8]); 7] = [
 pub struct Tally {
     times: [[u64; 19]; 7],
     endings: [u64; 3],
+    spaced: u64,
 }
 
 impl Tally {
@@ -36,8 +37,9 @@ impl Tally {
     }
 
     /// A row that both read alike.
-    pub fn note_row(&mut self, ending: Ending) {
-        self.endings[ending as usize] += 1;
+    pub fn note_row(&mut self, row: &Row) {
+        self.endings[row.ending as usize] += 1;
+        self.spaced += u64::from(row.serial[35] == b' ');
     }
 
     pub fn total(&self) -> u64 {
@@ -64,6 +66,7 @@ impl Tally {
         println!("{:>10}", self.total());
         let [counted, found, by_mini_chunks] = self.endings;
         println!("rows: {counted} counted, {found} found, {by_mini_chunks} by mini-chunks");
+        println!("rows with spaces in front of the serial number's check: {}", self.spaced);
     }
 
     /// Each number that a call can give arose, and no other; with 1 to 18 each one arose somewhere. So did each ending.
@@ -78,6 +81,7 @@ impl Tally {
             assert!(self.times.iter().any(|times| times[number] > 0), "no call gave number {number}");
         }
         assert!(self.endings.iter().all(|&rows| rows > 0), "an ending is missing: {:?}", self.endings);
+        assert!(self.spaced > 0, "no row has spaces in front of its serial number's check");
         assert!(self.total() >= 200_000, "{} calls are too few", self.total());
     }
 }

@@ -1,8 +1,8 @@
 //! Serial numbers that share slot and tag in the index of the proved library (crates/index/specs/Index.antt) are different
-//! all the same: each has its row, and 9 is only for the one that is there twice.
+//! all the same: each has its row, and 9 is only for the one that is there twice, however its check is written.
 
 use compare::both::Run;
-use compare::generate::with_check;
+use compare::generate::{otherwise, with_check};
 use plain::{Reading, Serial};
 
 /// The file of the specification's listing: one chunk of 3 bytes.
@@ -66,5 +66,24 @@ fn one_hash_and_many_serial_numbers() {
         serials.push(serials[again]);
         let (reading, _) = Run::new(0).read(&file_of(&serials), 41);
         assert_eq!(reading, Reading { count: 40, stop: HEADER + 40 * CHUNK, good: true, number: 9 });
+    }
+}
+
+/// Each one with a check below 100 again under the other writing of it, behind all of them: whichever writing comes first.
+#[test]
+fn two_writings_of_the_check() {
+    let zeros = colliding(40);
+    let spaces: Vec<Serial> = zeros.iter().map(otherwise).collect();
+    assert!(zeros.iter().zip(&spaces).filter(|(zero, space)| zero != space).count() >= 10);
+    for (first, again) in [(&zeros, &spaces), (&spaces, &zeros)] {
+        let file = file_of(first);
+        let (reading, rows) = Run::new(0).read(&file, 41);
+        assert_eq!(reading, Reading { count: 40, stop: file.len(), good: true, number: 0 });
+        assert!(rows.iter().map(|row| &row.serial).eq(first));
+        for serial in again {
+            let repeated = [&file[..], &file_of(&[*serial])[HEADER..]].concat();
+            let (reading, _) = Run::new(0).read(&repeated, 41);
+            assert_eq!(reading, Reading { count: 40, stop: file.len(), good: true, number: 9 });
+        }
     }
 }

@@ -14,21 +14,32 @@ pub struct Append {
 
 /// What is appended.
 struct Given<'a> {
-    number: usize,
+    serial: [u8; 38],
     parents: &'a [usize],
     specific: &'a [u8],
     contents: &'a [u8],
     open: bool,
 }
 
-/// A serial number that ends in this random number.
+/// A file with spaces in front of its numbers: an open chunk, and a MultiChunk that names it with zeros in its check.
+const PADDED: &[u8] = include_bytes!("../../../samples/padded.ads");
+
+/// A serial number with this random number.
 fn serial(number: usize) -> [u8; 38] {
     let first = format!("#20240229123456789SURVEYDESK01{number:05}");
     let sum = first.bytes().fold(0, u8::wrapping_add);
     format!("{first}{sum:03}").into_bytes().try_into().expect("38 bytes")
 }
 
-fn described(number: usize) -> Description {
+/// The same with spaces for the zeros in front of its check.
+fn spaced(number: usize) -> [u8; 38] {
+    let mut serial = serial(number);
+    let zeros = serial[35..37].iter().take_while(|&&digit| digit == b'0').count();
+    serial[35..35 + zeros].fill(b' ');
+    serial
+}
+
+fn described(serial: &[u8; 38]) -> Description {
     Description::new()
         .sub_format(b"ADS\\DATA\\TEST")
         .generic_type(b"TXT")
@@ -36,7 +47,7 @@ fn described(number: usize) -> Description {
         .time_standard(b"UTC")
         .time_offset(b"+0000      8.035")
         .event_synch(b"NUL")
-        .serial_number(&serial(number))
+        .serial_number(serial)
         .recording(b"20240229", b"RECORDER")
         .writing(b"20240301", b"DESK")
 }
@@ -53,7 +64,7 @@ fn append(file: &mut Vec<u8>, given: &Given) -> Result<Ends, Refusal> {
     let length = file.len();
     file.resize(length + 8192, 0);
     let ends =
-        ads::append(file, length, described(given.number), given.parents, given.specific, given.contents, given.open)?;
+        ads::append(file, length, described(&given.serial), given.parents, given.specific, given.contents, given.open)?;
     file.truncate(ends.third);
     Ok(ends)
 }
@@ -67,8 +78,8 @@ fn cut(mut file: Vec<u8>, given: &Given, parents: bool) -> Result<Append, Refusa
 /// A file with two chunks, the second with the first as its parent.
 fn two_chunks(strategy: &[u8; 3], mark: &[u8]) -> Result<Vec<u8>, Refusal> {
     let mut file = begun(strategy, mark)?;
-    append(&mut file, &Given { number: 40, parents: &[], specific: b"", contents: b"first", open: false })?;
-    append(&mut file, &Given { number: 41, parents: &[0], specific: b"", contents: b"second", open: false })?;
+    append(&mut file, &Given { serial: serial(40), parents: &[], specific: b"", contents: b"first", open: false })?;
+    append(&mut file, &Given { serial: serial(41), parents: &[0], specific: b"", contents: b"second", open: false })?;
     Ok(file)
 }
 
@@ -76,9 +87,9 @@ fn two_chunks(strategy: &[u8; 3], mark: &[u8]) -> Result<Vec<u8>, Refusal> {
 fn without_parent() -> Result<Vec<u8>, Refusal> {
     let mut file = begun(b"LLC", b"SEP")?;
     let header = file.len();
-    append(&mut file, &Given { number: 40, parents: &[], specific: b"", contents: b"first", open: false })?;
+    append(&mut file, &Given { serial: serial(40), parents: &[], specific: b"", contents: b"first", open: false })?;
     let first = file.len();
-    append(&mut file, &Given { number: 41, parents: &[0], specific: b"", contents: b"second", open: false })?;
+    append(&mut file, &Given { serial: serial(41), parents: &[0], specific: b"", contents: b"second", open: false })?;
     file.drain(header..first);
     Ok(file)
 }
@@ -88,7 +99,7 @@ pub fn kinds() -> Result<Vec<(&'static str, Append)>, Refusal> {
     let mark: Vec<u8> = long.iter().copied().chain(std::iter::repeat(b'-')).take(90).collect();
     let zeros = [0; 700];
     let specific: Vec<u8> = (0..600).map(|i| if i % 3 == 0 { 0 } else { i as u8 }).collect();
-    let plain = |contents, open| Given { number: 42, parents: &[], specific: b"", contents, open };
+    let plain = |contents, open| Given { serial: serial(42), parents: &[], specific: b"", contents, open };
     Ok(vec![
         ("counted", cut(two_chunks(b"LLC", b"SEP")?, &plain(b"counted data", false), false)?),
         ("counted, data of zeros", cut(two_chunks(b"LLC", b"SEP")?, &plain(&zeros, false), false)?),
@@ -102,7 +113,7 @@ pub fn kinds() -> Result<Vec<(&'static str, Append)>, Refusal> {
             "specific data with zeros",
             cut(
                 begun(b"LLC", b"\n")?,
-                &Given { number: 42, parents: &[], specific: &specific, contents: b"abc", open: false },
+                &Given { serial: serial(42), parents: &[], specific: &specific, contents: b"abc", open: false },
                 false,
             )?,
         ),
@@ -110,7 +121,7 @@ pub fn kinds() -> Result<Vec<(&'static str, Append)>, Refusal> {
             "two parents",
             cut(
                 two_chunks(b"LLC", b"SEP")?,
-                &Given { number: 42, parents: &[1, 0], specific: b"", contents: b"abc", open: false },
+                &Given { serial: serial(42), parents: &[1, 0], specific: b"", contents: b"abc", open: false },
                 true,
             )?,
         ),
@@ -118,7 +129,15 @@ pub fn kinds() -> Result<Vec<(&'static str, Append)>, Refusal> {
             "a parent that was missing",
             cut(
                 without_parent()?,
-                &Given { number: 40, parents: &[0], specific: b"", contents: b"abc", open: false },
+                &Given { serial: serial(40), parents: &[0], specific: b"", contents: b"abc", open: false },
+                true,
+            )?,
+        ),
+        (
+            "spaces in front of numbers",
+            cut(
+                PADDED.to_vec(),
+                &Given { serial: spaced(44), parents: &[0], specific: b"", contents: b"abc", open: false },
                 true,
             )?,
         ),

@@ -2,6 +2,7 @@
 
 use crate::chunk::{find, Chunk, DEPENDENCY_BYTES, HEADER_BYTES};
 use crate::description::{Checked, Description};
+use crate::field::compared;
 use crate::header::{Header, INTEGRITY_BYTES};
 use crate::number::*;
 use crate::reading::{Chunks, Reading};
@@ -49,7 +50,7 @@ pub fn append(
         return Err(MULTI);
     }
     let parents = named(parents, &rows).ok_or(ROW)?;
-    if rows.iter().any(|row| row.serial == fields.integrity.serial()) {
+    if rows.iter().any(|row| compared(row.serial) == compared(fields.integrity.serial())) {
         return Err(REPEATED);
     }
     if mark.contains(&0) {

@@ -104,7 +104,7 @@ fn chunk_header<'a>(fields: &mut Fields<'a>) -> Result<ChunkHeader<'a>, u8> {
     let dependency_length = fields.length(b"Chunk_Dependency_Length=")?;
     fields.lf()?;
     fields.same(b"Chunk_Dependency_Count=")?;
-    let dependencies = fields.number(4)?;
+    let dependencies = fields.count(4)?;
     // "the dependency length is 29 + 344 × n and the header length 536 + 344 × n + s"
     if dependency_length != 29 + DEPENDENCY_BYTES * dependencies {
         return Err(LENGTH);

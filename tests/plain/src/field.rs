@@ -15,6 +15,12 @@ pub fn number(bytes: &[u8]) -> Option<usize> {
     Some(value)
 }
 
+/// "lengths, counts, the mark length and the two checks may have leading spaces before at least one digit"
+pub fn count(bytes: &[u8]) -> Option<usize> {
+    let first = bytes.iter().position(|&byte| byte != b' ')?;
+    number(&bytes[first..])
+}
+
 fn number_to(bytes: &[u8], highest: usize) -> bool {
     number(bytes).is_some_and(|value| value <= highest)
 }
@@ -82,7 +88,12 @@ pub fn is_serial(bytes: &Serial) -> bool {
         && number_to(&bytes[15..18], 999)
         && is_text(&bytes[18..30])
         && number_to(&bytes[30..35], 65535)
-        && number(&bytes[35..38]) == Some(usize::from(sum(&bytes[..35])))
+        && count(&bytes[35..38]) == Some(usize::from(sum(&bytes[..35])))
+}
+
+/// "serials are compared by their first 35 bytes"
+pub fn compared(serial: &[u8]) -> &[u8] {
+    &serial[..35]
 }
 
 /// "added byte by byte, modulo 256"

@@ -58,8 +58,8 @@ impl<'a> Fields<'a> {
         }
     }
 
-    pub fn number(&mut self, digits: usize) -> Result<usize, u8> {
-        field::number(self.take(digits)?).ok_or(FORM)
+    pub fn count(&mut self, width: usize) -> Result<usize, u8> {
+        field::count(self.take(width)?).ok_or(FORM)
     }
 
     pub fn text<const N: usize>(&mut self) -> Result<&'a [u8; N], u8> {
@@ -95,7 +95,7 @@ impl<'a> Fields<'a> {
     /// A label, an I12 and no LF yet: "A length is tested [..] before the LF".
     pub fn length(&mut self, label: &[u8]) -> Result<usize, u8> {
         self.same(label)?;
-        self.number(12)
+        self.count(12)
     }
 
     /// A label, a field and LF.

@@ -43,7 +43,7 @@ impl<'a> Header<'a> {
 
 /// ""Format_ID=Ancillary Data Standard 1.00" LF, "Separator_Strategy=", LLC or NUL, I3 mark length, LF: 65 bytes."
 fn title(title: &[u8; TITLE_BYTES]) -> Result<(bool, usize), u8> {
-    let length = field::number(&title[61..64]).ok_or(TITLE)?;
+    let length = field::count(&title[61..64]).ok_or(TITLE)?;
     let nul = &title[58..61] == b"NUL";
     if !title.starts_with(FORMAT) || !(nul || &title[58..61] == b"LLC") || title[64] != b'\n' {
         return Err(TITLE);
@@ -69,7 +69,7 @@ impl<'a> Integrity<'a> {
         fields.line(b"Chunk_Writing_Date=", Fields::date)?;
         fields.line(b"Chunk_Writing_Agent=", Fields::text::<32>)?;
         let stated_sum =
-            fields.line(b"Chunk_Integrity_Checksum=", |fields| u8::try_from(fields.number(3)?).map_err(|_| FORM))?;
+            fields.line(b"Chunk_Integrity_Checksum=", |fields| u8::try_from(fields.count(3)?).map_err(|_| FORM))?;
         Ok(Integrity { serial, stated_sum })
     }
 }

@@ -28,7 +28,7 @@ pub fn read<'a>(
         if !declared.contains(&id) {
             return Err(SHORT_ID);
         }
-        let length = fields.number(12)?;
+        let length = fields.count(12)?;
         mini_chunk(id, fields.take(length)?);
     }
     Ok(declared)
@@ -40,7 +40,7 @@ fn types<'a>(fields: &mut Fields<'a>) -> Result<Vec<&'a ShortId>, u8> {
     let header_length = fields.length(b"Multi_Chunk_Header_Length=")?;
     fields.lf()?;
     fields.same(b"MiniChunk_Type_Count=")?;
-    let count = fields.number(4)?;
+    let count = fields.count(4)?;
     if !(1..=64).contains(&count) {
         return Err(LENGTH);
     }

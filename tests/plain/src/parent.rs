@@ -1,6 +1,7 @@
 //! "Parent of row k, dependency j, both from 0: the row with that serial and whether the sub-formats agree, or missing."
 
 use crate::chunk::Chunk;
+use crate::field::compared;
 use crate::number::{over_limit, DEPENDENCY, LIMIT, ROW};
 use crate::reading::rows;
 
@@ -21,6 +22,6 @@ pub fn parent(file: &[u8], row: usize, dependency: usize) -> Result<Option<Paren
         return Err(DEPENDENCY);
     }
     let (serial, sub_format) = chunk.dependency(file, dependency);
-    let found = rows.iter().position(|chunk| chunk.serial == serial);
+    let found = rows.iter().position(|chunk| compared(chunk.serial) == compared(serial));
     Ok(found.map(|row| Parent { row, agree: rows[row].sub_format == sub_format }))
 }

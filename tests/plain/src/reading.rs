@@ -3,7 +3,7 @@
 use std::collections::HashSet;
 
 use crate::chunk::{Chunk, Ending};
-use crate::field::Serial;
+use crate::field::{compared, Serial};
 use crate::header::Header;
 use crate::number::{over_limit, FULL, LIMIT, REPEATED};
 
@@ -48,7 +48,7 @@ pub struct Chunks<'a> {
     file: &'a [u8],
     header: Header<'a>,
     at: Option<usize>,
-    serials: HashSet<&'a Serial>,
+    serials: HashSet<&'a [u8]>,
 }
 
 impl<'a> Chunks<'a> {
@@ -65,7 +65,7 @@ impl<'a> Iterator for Chunks<'a> {
         let at = self.at.take().filter(|&at| at < self.file.len())?;
         // "whole chunk, serial already in a row"
         let chunk = Chunk::read(self.file, at, &self.header).and_then(|chunk| {
-            if self.serials.insert(chunk.serial) {
+            if self.serials.insert(compared(chunk.serial)) {
                 Ok(chunk)
             } else {
                 Err(REPEATED)

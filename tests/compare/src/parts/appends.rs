@@ -100,6 +100,10 @@ const FAULTS: &[Fault] = &[
         let row = r.below(c.file.rows.len());
         c.set(Step::SerialNumber(c.file.rows[row].serial));
     }),
+    ("serial number in a row, its check written otherwise", 9, |c, r| {
+        let row = r.below(c.file.rows.len());
+        c.set(Step::SerialNumber(generate::otherwise(&c.file.rows[row].serial)));
+    }),
     ("parent repeated", 13, |c, r| {
         let row = r.below(c.file.rows.len());
         c.given.parents.extend([row, row]);

@@ -53,7 +53,7 @@ pub fn bad_serial(random: &mut Random) -> Serial {
     let mut serial = generate::serial(random);
     match random.below(6) {
         0 => serial[0] = b'$',
-        1 => serial[36] = b' ',
+        1 => serial[37] = b' ',
         2 => serial[37] = b'0' + (serial[37] - b'0' + 1) % 10,
         3 => serial[1..9].copy_from_slice(b"20230229"),
         4 => serial = [b' '; 38],

@@ -37,8 +37,11 @@ fn times(standard: &[u8; 3], event: &[u8; 3]) -> Times {
 }
 
 /// Counted with dependencies and specific data, a MultiChunk, open (under NUL), empty, with a serial number on each line.
-pub fn rich(nul: bool, mark: &[u8]) -> File {
-    let mut file = File::new(nul, mark, &closing(0));
+fn rich(nul: bool, mark: &[u8]) -> File {
+    with_chunks(File::new(nul, mark, &closing(0)))
+}
+
+fn with_chunks(mut file: File) -> File {
     let test = b"ADS\\DATA\\TEST".to_vec();
     let plain = Chunk {
         sub_format: test.clone(),
@@ -70,7 +73,7 @@ pub fn rich(nul: bool, mark: &[u8]) -> File {
         times: times(b"ALT", b"SLV"),
         dependencies: vec![(serial(4), b"later".to_vec()), (serial(99), b"missing".to_vec())],
         specific: b"specific\n\0data".to_vec(),
-        contents: if nul { Contents::Open(data) } else { Contents::Counted(data) },
+        contents: if file.nul { Contents::Open(data) } else { Contents::Counted(data) },
         closing: closing(3),
         ..plain.clone()
     });
@@ -90,6 +93,7 @@ pub fn files() -> Vec<(&'static str, File)> {
         ("LLC, a short mark", rich(false, b"=\n=")),
         ("NUL, ABAB", rich(true, b"ABAB")),
         ("NUL, a mark like a label", rich(true, b"Chunk_Serial_Number=#20\0")),
+        ("NUL, spaces in front", with_chunks(File::padded(true, b"ABAB", &closing(0), Random::new(0, "spaces", 0)))),
     ]
 }
 

@@ -2,7 +2,7 @@
 
 use crate::both::Run;
 use crate::build::{filled, File, Kind};
-use crate::generate;
+use crate::generate::{self, same_serial};
 use crate::random::Random;
 
 pub fn run(run: &mut Run, cases: u64) {
@@ -52,7 +52,7 @@ fn parents(run: &mut Run, random: &mut Random, file: &File) {
                 continue;
             }
             let line = row.place + 568 + 344 * j;
-            let found = file.rows.iter().position(|of| of.serial == bytes[line + 25..line + 63]);
+            let found = file.rows.iter().position(|of| same_serial(&of.serial, &bytes[line + 25..]));
             let right = found.map(|row| plain::Parent {
                 row,
                 agree: filled(&file.sub_formats[row], 256) == bytes[line + 87..line + 343],

@@ -50,7 +50,7 @@ fn begin_refused() {
     assert_eq!(number(&beginning(b"LLC", &long[1..]), 0), 6);
 }
 
-fn description() -> Description<'static> {
+pub fn description() -> Description<'static> {
     Description::new()
         .sub_format(b"ADS\\DATA\\TEST")
         .generic_type(*b"TXT")
@@ -64,7 +64,7 @@ fn description() -> Description<'static> {
 }
 
 /// A buffer that holds a file, with room behind it.
-fn lent(file: &[u8], room: usize) -> Vec<u8> {
+pub fn lent(file: &[u8], room: usize) -> Vec<u8> {
     [file, &vec![b'?'; room]].concat()
 }
 

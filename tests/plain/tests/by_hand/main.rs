@@ -2,6 +2,7 @@
 
 mod calls;
 mod fields;
+mod padded;
 mod reading;
 
 use plain::{read, Ending, Reading, Row, Serial};

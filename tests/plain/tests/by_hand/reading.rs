@@ -211,7 +211,7 @@ fn multi_chunk() {
     assert_eq!(number(&file(&none[..568 + 65 + 518 + 9])), 4);
     assert_eq!(number(&file(&with(&good, "Type_Count=0002", "Type_Count=0000"))), 7);
     assert_eq!(number(&file(&with(&good, "Type_Count=0002", "Type_Count=0065"))), 7);
-    assert_eq!(number(&file(&with(&good, "Type_Count=0002", "Type_Count=   2"))), 6);
+    assert_eq!(number(&file(&with(&good, "Type_Count=0002", "Type_Count=2   "))), 6);
     assert_eq!(number(&file(&with(&good, "000487", "000483"))), 7);
     assert_eq!(number(&file(&with(&good, "Header_Length=000000001069", "Header_Length=000000001070"))), 7);
     assert_eq!(number(&file(&with(&good, "Header_Length=000000000536", "Header_Length=000000000537"))), 7);

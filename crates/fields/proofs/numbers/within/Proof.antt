@@ -1,13 +1,13 @@
 -- `fields::numbers::within` meets its contract. The loop's invariant: all pass where those passed over do and the rest
 -- does. The measure: what is left of the slice. Assumes nothing.
 use Prim.Native.Nat.{_-_, _≤_}
-use mathlib.Core.Bool.{Bool, true, false, _&&_}
+use mathlib.Core.Bool.{_&&_}
 use mathlib.Core.Path.{_≡_, refl}
 use native.Mathlib.Omega.{arith}
 use lib.Dec.{leb}
 use lib.ListN.{length, drop, getD}
 use Rattle.metafile.specs.Bytes.{all}
-use Rattle.fields.proofs.Prefix.{within, all-next, all-end}
+use Rattle.fields.proofs.Prefix.{within, and-assoc, all-next, all-end}
 use Rattle.fields.proofs.numbers.within.Statement.{statement}
 use Rattle.fields.proofs.numbers.within.Tie as tie
 
@@ -29,10 +29,6 @@ add-i c = omega arith
 loop-less : tie.Need-loop-less Inv-loop μ-loop
 loop-less c = omega arith
 
-both : (a b c : Bool) → ((a && b) && c) ≡ (a && (b && c))
-both true b c = refl
-both false b c = refl
-
 loop-again : tie.Need-loop-again Inv-loop μ-loop
 loop-again c =
     let at = c .before .before in
@@ -40,7 +36,7 @@ loop-again c =
     let low = at .before .args .low in
     let high = at .before .args .high in
     let x = getD s (at .loop .i) 0 in
-    (omega arith, rw (both (at .loop .good) (leb low x) (leb x high)) (all-next (within low high) s (at .loop .i) (at .loop .good) (omega arith) (at .loop .inv .1)))
+    (omega arith, rw (and-assoc (at .loop .good) (leb low x) (leb x high)) (all-next (within low high) s (at .loop .i) (at .loop .good) (omega arith) (at .loop .inv .1)))
 
 returns : tie.Need-returns Inv-loop μ-loop
 returns c =

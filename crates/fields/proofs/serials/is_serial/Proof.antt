@@ -19,8 +19,8 @@ part-check-start c = search needs
 part-check-end : tie.Need-part-check-end
 part-check-end c = search needs
 
-shared-slice-read-result : tie.Need-shared-slice-read-result
-shared-slice-read-result c = search needs
+shared-slice-read-good : tie.Need-shared-slice-read-good
+shared-slice-read-good c = search needs
 
 sub-is-date : tie.Need-sub-is-date
 sub-is-date c = search needs
@@ -61,9 +61,6 @@ is-text-requires c κs = search needs
 digits-at-requires-5 : tie.Need-digits-at-requires-5
 digits-at-requires-5 c κs = search needs
 
-is-count-requires : tie.Need-is-count-requires
-is-count-requires c κs = search needs
-
 count-value-requires : tie.Need-count-value-requires
 count-value-requires c κs = search needs
 
@@ -79,13 +76,17 @@ part-byte-sum-end c = search needs
 byte-sum-requires : tie.Need-byte-sum-requires
 byte-sum-requires c κs = search needs
 
-cast-result : tie.Need-cast-result
-cast-result c = search needs
+cast-right : tie.Need-cast-right
+cast-right c = search needs
+
+is-count-requires : tie.Need-is-count-requires
+is-count-requires c κs = search needs
 
 returns : tie.Need-returns
 unfolding isSerial
 returns c =
-    let t = c .before .before .before .before in
+    let r = c .before in
+    let t = r .before .before .before in
     let d = t .before .before .before .before in
     let b = d .before .before .before .before .before .before .before .before in
     rw (
@@ -97,9 +98,9 @@ returns c =
       t .before .before .before .digits-at4 .ensures,
       t .before .is-text .ensures,
       t .digits-at5 .ensures,
-      c .before .before .before .is-count .ensures,
-      c .before .before .count-value .ensures,
-      c .byte-sum .ensures,
+      r .before .before .count-value .ensures,
+      r .byte-sum .ensures,
+      c .is-count .ensures,
     )
 
 pub is-serial-spec : {M : Type 1} → statement M
@@ -110,7 +111,7 @@ is-serial-spec =
     sub-check
     part-check-start
     part-check-end
-    shared-slice-read-result
+    shared-slice-read-good
     sub-is-date
     part-is-date-start
     part-is-date-end
@@ -124,11 +125,11 @@ is-serial-spec =
     part-is-text-end
     is-text-requires
     digits-at-requires-5
-    is-count-requires
     count-value-requires
     sub-byte-sum
     part-byte-sum-start
     part-byte-sum-end
     byte-sum-requires
-    cast-result
+    cast-right
+    is-count-requires
     returns)

@@ -1,8 +1,8 @@
--- `fields::offsets::after` meets its contract. Assumes nothing.
+-- `fields::numbers::after` meets its contract. Assumes nothing.
 use Rattle.fields.proofs.Prefix.{count-le, rest-is}
 use borrow.Author.Needs.{needs}
-use Rattle.fields.proofs.offsets.after.Statement.{statement}
-use Rattle.fields.proofs.offsets.after.Tie as tie
+use Rattle.fields.proofs.numbers.after.Statement.{statement}
+use Rattle.fields.proofs.numbers.after.Tie as tie
 
 leading-requires : tie.Need-leading-requires
 leading-requires c κs = search needs
