@@ -21,8 +21,21 @@ pub fn plain_reading(file: &File) -> impl FnMut() + '_ {
 }
 
 pub fn summed(file: &File) -> impl FnMut() + '_ {
-    || {
-        black_box(plain::field::sum(black_box(&file.bytes)));
+    sum_of(plain::field::sum, &file.bytes)
+}
+
+pub fn sum_of(sum: fn(&[u8]) -> u8, bytes: &[u8]) -> impl FnMut() + '_ {
+    move || {
+        black_box(sum(black_box(bytes)));
+    }
+}
+
+/// Sums of so many bytes, from sixteen starts in turns.
+pub fn sums_of(sum: fn(&[u8]) -> u8, bytes: &[u8], length: usize, calls: usize) -> impl FnMut() + '_ {
+    move || {
+        for call in 0..calls {
+            black_box(sum(black_box(&bytes[call % 16..][..length])));
+        }
     }
 }
 

@@ -13,8 +13,10 @@ use std::hint::black_box;
 use calls::{plain_append, plain_reading, proved_append, proved_reading, summed};
 use compare::build::File;
 use compare::ffi;
+use compare::kernels;
+use compare::random::Random;
 use files::MIB;
-use timing::best;
+use timing::{best, Call};
 
 const ROUNDS: usize = 4;
 
@@ -51,8 +53,38 @@ struct Report {
 /// A part, by the name by which it can be asked for alone. It makes one round, and keeps the best times.
 type Part = (&'static str, fn(&mut Vec<f64>) -> Report);
 
-const PARTS: [Part; 6] =
-    [("i", large), ("ii", small), ("iii", open), ("iv", mini_chunks), ("v", growth), ("append", long_append)];
+#[rustfmt::skip]
+const PARTS: [Part; 7] = [
+    ("sums", both_sums), ("i", large), ("ii", small), ("iii", open), ("iv", mini_chunks), ("v", growth),
+    ("append", long_append),
+];
+
+type Sum = fn(&[u8]) -> u8;
+
+/// Proved by words, proved byte by byte, plain.
+const SUMS: [Sum; 3] = [kernels::word_sum, kernels::byte_sum, plain::field::sum];
+
+/// How often the sum of a few bytes is taken for one time.
+const CALLS: usize = 100_000;
+
+/// The sums in turns, over 64 MiB and over 852 bytes, which is what the sum of an empty chunk is taken of; these from sixteen
+/// starts.
+fn both_sums(times: &mut Vec<f64>) -> Report {
+    let bytes = Random::new(0, "sums", 0).bytes(64 * MIB);
+    let mut long = SUMS.map(|sum| calls::sum_of(sum, &bytes));
+    let mut short = SUMS.map(|sum| calls::sums_of(sum, &bytes, 852, CALLS));
+    let long = long.iter_mut().map(|call| (1, call as &mut dyn FnMut()));
+    let short = short.iter_mut().map(|call| (1, call as &mut dyn FnMut()));
+    best(times, &mut long.chain(short).collect::<Vec<Call>>());
+    let mut lines = Vec::new();
+    for (name, times, bytes) in [("64 MiB", &times[..3], 64 * MIB), ("100,000 x 852 bytes", &times[3..], 852 * CALLS)] {
+        let [words, single, plain] = [times[0], times[1], times[2]];
+        lines.push(line(&format!("sum by words, {name}"), &[words, plain], bytes, None));
+        lines.push(line(&format!("sum byte by byte, {name}"), &[single, plain], bytes, None));
+        lines.push(format!("{:48} {:29.2}   by words, of byte by byte", "", words / single));
+    }
+    Report { lines, goals: Vec::new() }
+}
 
 fn large(kept: &mut Vec<f64>) -> Report {
     let file = files::counted(8, 8 * MIB, &[]);

@@ -61,7 +61,7 @@ class Case(unittest.TestCase):
         for name in ("ads.pc.in", "Makefile"):
             shutil.copy2(ROOT / name, self.checkout / name)
         for name in ("include", "man", "python", "samples", "target/lib", "target/staticlib"):
-            without = shutil.ignore_patterns("__pycache__")
+            without = shutil.ignore_patterns("__pycache__", "libkernels.a")
             shutil.copytree(ROOT / name, self.checkout / name, symlinks=True, ignore=without)
         self.make("shared")
 

@@ -30,5 +30,5 @@ pub fn sum_good(s: &[u8], at: usize, mark: &[u8]) -> bool
     ensures { λ r. ⌜ r ≡ sumGood at (now (mark .entry)) (now (s .entry)) ⌝ }
 {
     let digits = at + mark.len() + places::CHECKSUM;
-    count_at(s, digits, places::SUM) == sums::byte_sum(&s[..digits]) as usize
+    count_at(s, digits, places::SUM) == sums::word_sum(&s[..digits]) as usize
 }

@@ -109,7 +109,7 @@ pub fn put_closing(buffer: &mut [u8], from: usize, at: usize, mark: &[u8], value
     let lines = put_bytes(buffer, at, mark);
     let label = put_lines(buffer, lines, numbers::CHUNK_SERIAL, BEFORE_SUM, values);
     let digits = table::put_label(buffer, label, numbers::CHECKSUM);
-    let sum = sums::byte_sum(&buffer[from..digits]);
+    let sum = sums::word_sum(&buffer[from..digits]);
     let end = put_number(buffer, digits, places::SUM, sum as u64);
     buffer[end] = 10;
     put_bytes(buffer, end + 1, mark)

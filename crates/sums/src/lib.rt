@@ -1,8 +1,15 @@
 // Sums of bytes: "added byte by byte, modulo 256", the check of a serial number and the sum of a chunk.
-// The contract cites sum of the crate metafile (specs/Bytes); the laws of the sum are in proofs/Laws.
-// Rests on std::num for the addition that wraps.
+// The contracts cite sum of the crate metafile (specs/Bytes); the laws of the sum are in proofs/Laws.
+//     byte_sum   the reference, byte by byte; a serial number's check
+//     words      the same sum, eight bytes at a time: chunks and the header
+// Rests on std::num for the additions that wrap.
 ghost use mathlib.Core.Path.{_≡_};
 ghost use Rattle.metafile.specs.Bytes.{sum};
+
+mod words;
+
+pub use words::sums_agree;
+pub use words::word_sum;
 
 // The sum of a run of bytes, added byte by byte, modulo 256.
 pub fn byte_sum(s: &[u8]) -> u8

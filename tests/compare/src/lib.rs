@@ -4,6 +4,7 @@
 //! | module | holds |
 //! |---|---|
 //! | `ffi` | the C interface |
+//! | `kernels` | inner functions of the library: the two sums |
 //! | `random` | seeded numbers |
 //! | `build`, `generate` | files built field by field; valid files of every kind |
 //! | `damage` | damages of each kind of field |
@@ -18,6 +19,7 @@ pub mod damage;
 pub mod describe;
 pub mod ffi;
 pub mod generate;
+pub mod kernels;
 pub mod parts;
 pub mod random;
 pub mod tally;

@@ -15,11 +15,11 @@ add-digits-2 c = omega arith
 count-at-requires : tie.Need-count-at-requires
 count-at-requires c κs = omega arith
 
-slice-aggregate-byte-sum : tie.Need-slice-aggregate-byte-sum
-slice-aggregate-byte-sum c = simp length-take (omega arith)
+slice-aggregate-word-sum : tie.Need-slice-aggregate-word-sum
+slice-aggregate-word-sum c = simp length-take (omega arith)
 
-byte-sum-requires : tie.Need-byte-sum-requires
-byte-sum-requires c κs = search needs
+word-sum-requires : tie.Need-word-sum-requires
+word-sum-requires c κs = search needs
 
 cast-result : tie.Need-cast-result
 cast-result c = search needs
@@ -27,7 +27,7 @@ cast-result c = search needs
 returns : tie.Need-returns
 returns c =
     let a = c .before .before .before .before .before .args in
-    sum-is (a .mark .now) (a .s .now) (a .at) _ _ (c .before .before .count-at .ensures) (c .byte-sum .ensures)
+    sum-is (a .mark .now) (a .s .now) (a .at) _ _ (c .before .before .count-at .ensures) (c .word-sum .ensures)
 
 pub sum-good-spec : {M : Type 1} → statement M
 sum-good-spec =
@@ -36,7 +36,7 @@ sum-good-spec =
     add-digits
     add-digits-2
     count-at-requires
-    slice-aggregate-byte-sum
-    byte-sum-requires
+    slice-aggregate-word-sum
+    word-sum-requires
     cast-result
     returns)

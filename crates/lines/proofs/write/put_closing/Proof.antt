@@ -20,8 +20,8 @@ put-label-requires c κs =
     let lines = c .before .before .before .put-lines in
     omega (arith, pre, mark .ensures .0, mark .kept .0, lines .ensures .0, lines .kept .0, integrity-size, integrity-values, checksum-label)
 
-part-byte-sum-end : tie.Need-part-byte-sum-end
-part-byte-sum-end c =
+part-word-sum-end : tie.Need-part-word-sum-end
+part-word-sum-end c =
     let pre = c .before .before .before .before .before .before .before .before .before .before .before .before .before .before .before .before .pre in
     let mark = c .before .before .before .before .before .before .before .before .before .before .before .put-bytes in
     let lines = c .before .before .before .before .before .before .before .put-lines in
@@ -79,7 +79,7 @@ returns c =
     let mark = c .before .before .before .before .before .before .before .before .before .before .before .before .before .before .before .before .before .before .before .before .before .put-bytes in
     let lines = c .before .before .before .before .before .before .before .before .before .before .before .before .before .before .before .before .before .put-lines in
     let label = c .before .before .before .before .before .before .before .before .before .before .before .before .before .put-label in
-    let total = c .before .before .before .before .before .before .before .before .byte-sum in
+    let total = c .before .before .before .before .before .before .before .before .word-sum in
     let digits = c .before .before .before .before .before .before .put-number in
     let last = c .before .before .put-bytes2 in
     let args = c .before .before .before .before .before .before .before .before .before .before .before .before .before .before .before .before .before .before .before .before .before .before .before .before .before .before .args in
@@ -94,7 +94,7 @@ put-closing-spec =
     put-label-requires
     (λ c. search needs)
     (λ c. search needs)
-    part-byte-sum-end
+    part-word-sum-end
     (λ c κs. search needs)
     (λ c. search needs)
     put-number-requires
