@@ -46,6 +46,43 @@ pub fn copied_and_summed(from: &[u8], to: &mut [u8]) -> u8 {
     })
 }
 
+/// The mark sought behind each content length line by its first byte, 64 bytes at a time: what a search for one byte can do.
+pub fn searched(file: &File) -> impl FnMut() + '_ {
+    let found: usize = file.rows.iter().map(|row| row.bytes).sum();
+    move || {
+        let rest = |row: &Row| &black_box(&file.bytes)[row.contents..];
+        let sum: usize = file.rows.iter().map(|row| find_by_first(&file.mark, rest(row))).sum();
+        assert_eq!(sum, found);
+    }
+}
+
+fn find_by_first(mark: &[u8], bytes: &[u8]) -> usize {
+    let mut from = 0;
+    while let Some(on) = find_byte(mark[0], &bytes[from..]) {
+        if bytes[from + on..].starts_with(mark) {
+            return from + on;
+        }
+        from += on + 1;
+    }
+    bytes.len()
+}
+
+fn find_byte(byte: u8, bytes: &[u8]) -> Option<usize> {
+    let here = |part: &[u8]| part.iter().position(|&other| other == byte);
+    let mut stretches = bytes.chunks_exact(64);
+    for (number, stretch) in (&mut stretches).enumerate() {
+        if stretch.iter().fold(false, |has, &other| has | (other == byte)) {
+            return here(stretch).map(|on| number * 64 + on);
+        }
+    }
+    here(stretches.remainder()).map(|on| bytes.len() / 64 * 64 + on)
+}
+
+/// One of the proved searches over bytes in which the mark is not.
+pub fn search_of<'a>(find: fn(&[u8], &[u8]) -> usize, mark: &'a [u8], bytes: &'a [u8]) -> impl FnMut() + 'a {
+    move || assert_eq!(find(black_box(mark), black_box(bytes)), bytes.len())
+}
+
 /// The file in a buffer with room for one chunk more, of so many parents and bytes.
 pub fn room_for(file: &File, parents: usize, bytes: usize) -> Vec<u8> {
     let mut buffer = file.bytes.clone();

@@ -94,6 +94,19 @@ pub fn open(chunks: usize, bytes: usize) -> File {
     file
 }
 
+/// Marks that are slow to search for, 90 bytes each, with data of so many bytes in which they are not.
+pub fn hostile(bytes: usize) -> [(&'static str, Vec<u8>, Vec<u8>); 4] {
+    let with = |at: usize| (0..90).map(|place| if place == at { b'B' } else { b'A' }).collect();
+    let stars = (1..=bytes).map(|place| if place % 89 == 0 { b'X' } else { b'*' }).collect();
+    let same = vec![b'A'; bytes];
+    [
+        ("90 stars in 88 and another", vec![b'*'; 90], stars),
+        ("B, 89 A in A", with(0), same.clone()),
+        ("A, B, 88 A in A", with(1), same.clone()),
+        ("45 A, B, 44 A in A", with(45), same),
+    ]
+}
+
 /// One MultiChunk with four types and so many mini-chunks of so many bytes.
 pub fn multi(mini_chunks: usize, bytes: usize) -> File {
     let mut random = Random::new(1, "multi", 0);

@@ -54,9 +54,9 @@ struct Report {
 type Part = (&'static str, fn(&mut Vec<f64>) -> Report);
 
 #[rustfmt::skip]
-const PARTS: [Part; 7] = [
+const PARTS: [Part; 9] = [
     ("sums", both_sums), ("i", large), ("ii", small), ("iii", open), ("iv", mini_chunks), ("v", growth),
-    ("append", long_append),
+    ("vii", small_open), ("viii", hostile_marks), ("append", long_append),
 ];
 
 type Sum = fn(&[u8]) -> u8;
@@ -138,10 +138,47 @@ const OTHER_CALLS: [&str; 5] = [
     "(vi) append of 11 bytes, two parents",
 ];
 
-fn open(kept: &mut Vec<f64>) -> Report {
+/// The reading, beside one plain sum and one search for the mark's first byte over the same bytes.
+#[rustfmt::skip]
+fn open(times: &mut Vec<f64>) -> Report {
     let file = files::open(64, MIB);
-    let lines = reading(kept, "(iii) read, 64 open chunks of 1 MiB, mark of 90", &file);
-    Report { lines, goals: Vec::new() }
+    best(times, &mut [
+        (1, &mut proved_reading(&file)), (1, &mut plain_reading(&file)), (1, &mut summed(&file)),
+        (1, &mut calls::searched(&file)),
+    ]);
+    let lines = vec![
+        line("(iii) read, 64 open chunks of 1 MiB, mark of 90", &times[..2], file.bytes.len(), Some(times[2])),
+        format!("{:48} {:10.3} {:10.3}   ms: one sum, one search by the first byte", "", times[2] * 1e3, times[3] * 1e3),
+    ];
+    let goals = vec![
+        goal("(iii) time, of one sum and one search by the first byte", times[0] / (times[2] + times[3]), 1.3, false),
+        goal("(iii) time, of plain's", times[0] / times[1], 1.0, false),
+    ];
+    Report { lines, goals }
+}
+
+fn small_open(kept: &mut Vec<f64>) -> Report {
+    let file = files::open(50_000, 100);
+    let lines = reading(kept, "(vii) read, 50,000 open chunks of 100 bytes", &file);
+    Report { lines, goals: vec![goal("(vii) time, of plain's", kept[0] / kept[1], 1.0, false)] }
+}
+
+/// Hostile marks: the search by shifts and the plain search in turns.
+fn hostile_marks(times: &mut Vec<f64>) -> Report {
+    let hostile = files::hostile(64 * MIB);
+    let by_shifts = |mark: &[u8], bytes: &[u8]| kernels::find(mark, bytes).place;
+    let mut searches = Vec::new();
+    for (_, mark, bytes) in &hostile {
+        searches.extend([by_shifts, kernels::find_plain].map(|find| calls::search_of(find, mark, bytes)));
+    }
+    best(times, &mut searches.iter_mut().map(|call| (1, call as &mut dyn FnMut())).collect::<Vec<Call>>());
+    let (mut lines, mut goals) = (Vec::new(), Vec::new());
+    for ((name, ..), pair) in hostile.iter().zip(times.chunks(2)) {
+        lines.push(line(&format!("(viii) {name}"), pair, 64 * MIB, None));
+        goals.push(goal(&format!("(viii) {name}, of the plain search"), pair[0] / pair[1], 4.0, false));
+        goals.push(goal(&format!("(viii) {name}, seconds for 64 MiB"), pair[0], 2.0, false));
+    }
+    Report { lines, goals }
 }
 
 fn mini_chunks(kept: &mut Vec<f64>) -> Report {

@@ -1,8 +1,8 @@
 -- Laws of lists of bytes: equal bytes, a test over all bytes, parts, members, padding, the first place of a mark.
---     same-eq same-refl same-not   equal bytes; all-append all-weaken all-take all-drop: a test over all bytes
+--     same-eq same-refl same-not   equal bytes; all-append all-weaken all-drop all-at: a test over all bytes
 --     part-local drop-take         a part that ends inside is the same with more bytes behind, or fewer
---     length-padded padded-take    padding
---     starts-local find-local find-least find-fits   the first place of a mark
+--     length-padded                padding
+--     starts-local starts-fits find-local find-least find-fits   the first place of a mark
 -- Assumes nothing.
 use Prim.Native.Nat.{ℕ, zero, suc, _+_, _-_, _≤_, _<_}
 use mathlib.Core.Bool.{Bool, true, false, cond, not, _&&_, _||_}
@@ -10,7 +10,7 @@ use mathlib.Core.Path.{_≡_, refl, sym, ap, _∙_}
 use mathlib.Core.List.{List, [], _∷_, _++_, append-assoc, append-nil}
 use native.Mathlib.Omega.{arith}
 use lib.Dec.{leb, eqb}
-use lib.ListN.{length, take, drop, replicate, length-append, length-drop, length-replicate}
+use lib.ListN.{length, take, drop, getD, replicate, length-append, length-take, length-drop, length-replicate}
 use lib.Seq.{take-all, take-append-le, drop-append-le}
 use borrow.Author.Tests.{eqb-true, eq-eqb}
 use Rattle.metafile.specs.Bytes.{part, all, nonZero, same, member, starts, find}
@@ -54,6 +54,18 @@ all-weaken p q (x ∷ xs) h e =
     let k = and-both (p x) (all p xs) e in
     both-and (q x) (all q xs) (h x (k .0)) (all-weaken p q xs h (k .1))
 
+pub all-drop : (p : ℕ → Bool) (k : ℕ) (s : List ℕ) → all p s ≡ true → all p (drop k s) ≡ true
+unfolding all
+all-drop p zero s h = h
+all-drop p (suc k) [] h = refl
+all-drop p (suc k) (x ∷ s) h = all-drop p k s ((and-both (p x) (all p s) h) .1)
+
+pub all-at : (p : ℕ → Bool) (s : List ℕ) (i : ℕ) → i < length s → all p s ≡ true → p (getD s i 0) ≡ true
+unfolding all
+all-at p [] i l h = absurd (omega arith)
+all-at p (x ∷ s) zero l h = (and-both (p x) (all p s) h) .0
+all-at p (x ∷ s) (suc i) l h = all-at p s i (omega arith) ((and-both (p x) (all p s) h) .1)
+
 -- ---- members
 
 -- what holds of all of a list of runs of bytes holds of a member
@@ -92,6 +104,13 @@ length-padded n t h = simp (length-append, length-replicate) (omega arith)
 pub starts-local : (m s t : List ℕ) → length m ≤ length s → starts m (s ++ t) ≡ starts m s
 unfolding starts
 starts-local m s t h = rw (take-append-le (length m) s t h)
+
+-- a mark has room where it stands
+pub starts-fits : (m s : List ℕ) → starts m s ≡ true → length m ≤ length s
+unfolding starts
+starts-fits m s e =
+    let a : length (take (length m) s) ≡ length m = ap length (same-eq (take (length m) s) m e) in
+    omega (arith, length-take (length m) s)
 
 pub find-nil : (t : List ℕ) → find [] t ≡ 0
 unfolding find starts same

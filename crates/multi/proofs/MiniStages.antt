@@ -19,7 +19,7 @@ use Rattle.metafile.specs.Answers.{placed}
 use Rattle.metafile.specs.Multi.{miniLabel, miniID, miniData, miniFault}
 use Rattle.table.specs.Codes.{lineNo}
 use Rattle.laws.proofs.First.{test, ⊳-left, ⊳-right, ⊳-none, require-met, require-unmet}
-use Rattle.laws.proofs.Lists.{same-eq}
+use Rattle.laws.proofs.Lists.{same-eq, starts-fits}
 use Rattle.laws.proofs.Loops.{fixed-good, placed-nothing}
 use Rattle.laws.proofs.Table.{field-short, field-long, run-enough}
 use Rattle.laws.proofs.Distances.{lines}
@@ -49,15 +49,9 @@ module _ (at : ℕ) (r : List ℕ) where
 
 -- ---- a mini-chunk
 
-starts-long : (m s : List ℕ) → starts m s ≡ true → length m ≤ length s
-unfolding starts
-starts-long m s e =
-    let a : length (take (length m) s) ≡ length m = ap length (same-eq (take (length m) s) m e) in
-    omega (arith, length-take (length m) s)
-
 label-passes : (m s : List ℕ) → starts m s ≡ true → fault (fixed m) s ≡ 0
 unfolding starts
-label-passes m s e = sym (fixed-good m s (starts-long m s e) (same-eq (take (length m) s) m e))
+label-passes m s e = sym (fixed-good m s (starts-fits m s e) (same-eq (take (length m) s) m e))
 
 module _ (at : ℕ) (r : List ℕ) (s : starts miniLabel (drop at r) ≡ true) where
   mini-stages : (ids : List (List ℕ)) → miniFault ids (drop at r)

@@ -4,12 +4,14 @@
 --     starts-..    a beginning: too short, across two runs
 --     find-..      found here, later, never past the end
 --     Passed       the search over all is the search from a place on: nothing was found before it
---     passed-..    such a place where the search begins, one place on, on to a byte; what is found there, at the end
---     byte-..      the search for one byte
+--     passed-..    such a place where the search begins, one place on, several, on to a byte; what is found there, from there on, at
+--                  the end; part-.. the part from there on
+--     byte-..      the search for one byte, from place to place and in the first bytes
+--     any-..       whether it occurs, all bytes compared
 --     inside-..    the first place inside the first of two runs, and what the search in both is from it
 -- Assumes nothing.
-use Prim.Native.Nat.{ℕ, suc, _+_, _-_, _≤_, _<_, min}
-use mathlib.Core.Bool.{Bool, true, false, _&&_, and-true, and-false}
+use Prim.Native.Nat.{ℕ, zero, suc, _+_, _-_, _≤_, _<_, min}
+use mathlib.Core.Bool.{Bool, true, false, _&&_, _||_, and-true, and-false}
 use mathlib.Core.Path.{_≡_, refl, sym, ap, _∙_}
 use mathlib.Core.List.{List, [], _∷_, _++_, append-nil}
 use native.Mathlib.Nat.{zero-add}
@@ -17,11 +19,12 @@ use native.Mathlib.Numerals.{add-one}
 use native.Mathlib.Omega.{arith}
 use lib.Dec.{eqb}
 use lib.ListN.{length, take, drop, getD, length-append, length-drop, length-take, take-append-drop, drop-of-length-le}
-use lib.Seq.{drop-cons, drop-append-le, drop-drop, take-append-add}
+use lib.Seq.{drop-cons, drop-append-le, drop-drop, take-append-add, getD-drop, getD-take}
 use borrow.Author.Tests.{eq-eqb, ne-eqb, eqb-true}
 use Rattle.metafile.specs.Bytes.{same, starts, find}
-use Rattle.laws.proofs.First.{test}
-use Rattle.laws.proofs.Lists.{find-fits}
+use Rattle.search.specs.Shifts.{isIn}
+use Rattle.laws.proofs.First.{test, untrue, or-left, or-right}
+use Rattle.laws.proofs.Lists.{find-fits, find-local}
 use Rattle.laws.proofs.Loops.{part-drop}
 
 -- ---- the same bytes
@@ -128,6 +131,14 @@ passed-one m s p l e h =
     let q = find-later m (drop p s) (omega (arith, length-drop p s)) e in
     omega (arith, rw drop-drop at q)
 
+-- several places at once
+pub passed-more : (m s : List ℕ) (p k : ℕ) → p + k ≤ length s → ((d : ℕ) → d < k → starts m (drop (p + d) s) ≡ false)
+    → Passed m s p → Passed m s (p + k)
+passed-more m s p zero l f h = rw (let e : p + zero ≡ p = omega arith in e) h
+passed-more m s p (suc k) l f h =
+    let e : p + suc k ≡ p + k + 1 = omega arith in
+    rw e (passed-one m s (p + k) (omega arith) (f k (omega arith)) (passed-more m s p k (omega arith) (λ d b. f d (omega arith)) h))
+
 pub passed-end : (m s : List ℕ) (p : ℕ) → length s ≤ p → Passed m s p → p ≡ find m s
 unfolding find
 passed-end m s p l h =
@@ -174,6 +185,73 @@ passed-byte (x ∷ m) s t p k n l h e =
 
 pub byte-within : (b : ℕ) (s : List ℕ) (p k : ℕ) → p ≤ length s → k ≡ find (b ∷ []) (drop p s) → p + k ≤ length s
 byte-within b s p k l e = omega (arith, find-fits (b ∷ []) (drop p s), length-drop p s)
+
+-- ---- a byte that occurs or not
+
+pub any-begin : (b : ℕ) (s : List ℕ) → isIn b s ≡ (false || isIn b (drop 0 s))
+any-begin b s = refl
+
+any-at : (b : ℕ) (s : List ℕ) (i : ℕ) → i < length s → isIn b (drop i s) ≡ (eqb (getD s i 0) b || isIn b (drop (i + 1) s))
+unfolding isIn
+any-at b s i l = rw (drop-cons s i 0, add-one i)
+
+pub any-next : (b : ℕ) (s : List ℕ) (i : ℕ) (found : Bool) → i < length s → isIn b s ≡ (found || isIn b (drop i s))
+    → isIn b s ≡ ((found || eqb (getD s i 0) b) || isIn b (drop (i + 1) s))
+any-next b s i true l e = e
+any-next b s i false l e = e ∙ any-at b s i l
+
+pub any-end : (b : ℕ) (s : List ℕ) (i : ℕ) (found : Bool) → length s ≤ i → isIn b s ≡ (found || isIn b (drop i s)) → found ≡ isIn b s
+unfolding isIn
+any-end b s i true l e = sym e
+any-end b s i false l e = sym (e ∙ rw (drop-of-length-le s l))
+
+pub in-at : (m : List ℕ) (i : ℕ) → i < length m → isIn (getD m i 0) m ≡ true
+unfolding isIn
+in-at [] i l = absurd (omega arith)
+in-at (x ∷ m) zero l = or-left (eqb x x) (isIn x m) (eq-eqb x x refl)
+in-at (x ∷ m) (suc i) l = or-right (eqb x (getD m i 0)) (isIn (getD m i 0) m) (in-at m i (omega arith))
+
+-- a stretch of n bytes that does not have the byte is passed over
+pub passed-stretch : (b : ℕ) (s : List ℕ) (p n : ℕ) → p + n ≤ length s → isIn b (take (p + n - p) (drop p s)) ≡ false
+    → Passed (b ∷ []) s p → Passed (b ∷ []) s (p + n)
+passed-stretch b s p n l e h =
+    let w : p + n - p ≡ n = omega arith in
+    let v = take n (drop p s) in
+    let g : isIn b v ≡ false = rw w at e in
+    let not-here : (d : ℕ) → d < n → starts (b ∷ []) (drop (p + d) s) ≡ false =
+    λ d k.
+    let same-byte : getD v d 0 ≡ getD s (p + d) 0 = getD-take n (drop p s) d 0 k ∙ getD-drop p s d 0 in
+    let long : d < length v = omega (arith, length-take n (drop p s), length-drop p s) in
+    starts-byte b s (p + d) (omega arith)
+    ∙ ne-eqb (getD s (p + d) 0) b (λ q. untrue (sym g ∙ ap (λ (x : ℕ). isIn x v) (sym (same-byte ∙ q)) ∙ in-at v d long)) in
+    passed-more (b ∷ []) s p n l not-here h
+
+-- found from a place on
+pub passed-rest : (m s : List ℕ) (p q : ℕ) → Passed m s p → q ≡ find m (take (length s - p) (drop p s)) → p + q ≡ find m s
+passed-rest m s p q h e =
+    let g = rw (part-drop s p) at e in
+    omega arith
+
+pub part-length : (s : List ℕ) (p : ℕ) → length (take (length s - p) (drop p s)) ≡ length s - p
+part-length s p = rw (part-drop s p) (length-drop p s)
+
+pub part-within : (m s : List ℕ) (p q : ℕ) → p ≤ length s → q ≡ find m (take (length s - p) (drop p s)) → p + q ≤ length s
+part-within m s p q l e =
+    let g = rw (part-drop s p) at e in
+    omega (arith, find-fits m (drop p s), length-drop p s)
+
+-- the first n bytes looked at, then the rest
+pub byte-near : (b : ℕ) (s : List ℕ) (n i : ℕ) → n ≤ length s → i ≡ find (b ∷ []) (take n s) → i < n → i ≡ find (b ∷ []) s
+byte-near b s n i l e h =
+    let q : find (b ∷ []) (take n s) + 1 ≤ length (take n s) = omega (arith, length-take n s) in
+    e ∙ sym (find-local (b ∷ []) (take n s) (drop n s) q) ∙ ap (λ (v : List ℕ). find (b ∷ []) v) (take-append-drop n s)
+
+pub byte-far : (b : ℕ) (s : List ℕ) (n i q : ℕ) → n ≤ length s → i ≡ find (b ∷ []) (take n s) → n ≤ i
+    → q ≡ find (b ∷ []) (take (length s - n) (drop n s)) → n + q ≡ find (b ∷ []) s
+byte-far b s n i q l e h f =
+    let r = first-found b [] (take n s) (drop n s) in
+    let k : find (b ∷ []) (take n s) ≡ n = omega (arith, find-fits (b ∷ []) (take n s), length-take n s) in
+    passed-rest (b ∷ []) s n q (rw (k, take-append-drop n s) at r) f
 
 -- ---- inside the first of two runs
 

@@ -195,6 +195,35 @@ pub fn data(random: &mut Random, mark: &[u8]) -> Vec<u8> {
     }
 }
 
+/// Bytes of the so many letters from A on; of 256 letters these are all bytes.
+pub fn letters(random: &mut Random, count: usize, length: usize) -> Vec<u8> {
+    (0..length).map(|_| b'A'.wrapping_add(random.below(count) as u8)).collect()
+}
+
+/// Data of so many letters with the mark in them: whole, either part of it, and with a byte changed.
+pub fn with_marks(random: &mut Random, mark: &[u8], count: usize, length: usize) -> Vec<u8> {
+    let mut data = Vec::new();
+    while data.len() < length {
+        let cut = random.below(mark.len() + 1);
+        match random.below(8) {
+            0 => data.extend(mark),
+            1 => data.extend(&mark[..cut]),
+            2 => data.extend(&mark[cut..]),
+            3 => {
+                let at = data.len() + random.below(mark.len());
+                data.extend(mark);
+                data[at] ^= random.pick(&[1, 3, 0x80]);
+            }
+            _ => {
+                let length = random.between(1, 2 * mark.len() + 70);
+                data.extend(letters(random, count, length));
+            }
+        }
+    }
+    data.truncate(length);
+    data
+}
+
 fn types(random: &mut Random, count: usize) -> Vec<Type> {
     let same = random.text(6);
     (0..count)

@@ -6,17 +6,18 @@
 use std::time::Instant;
 
 use compare::both::Run;
-use compare::parts::{appends, begins, cuts, damaged, limits, listings, pairs, rich, valid};
+use compare::parts::{appends, begins, cuts, damaged, limits, listings, marks, pairs, rich, valid};
 
 type Part = (&'static str, fn(&mut Run));
 
-const PARTS: [Part; 9] = [
+const PARTS: [Part; 10] = [
     ("valid files", |run| valid::run(run, 1500)),
     ("a rich file", rich::run),
     ("two faults", pairs::run),
     ("damaged files", |run| damaged::run(run, 400, 100)),
     ("begin", |run| begins::run(run, 2500)),
     ("append", |run| appends::run(run, 2500)),
+    ("open marks", |run| marks::run(run, 3000)),
     ("power cuts", |run| cuts::run(run, 24)),
     ("listings", listings::run),
     ("limits", limits::run),

@@ -1,56 +1,50 @@
--- `search::find_byte` meets its contract. The loop's invariant: the byte does not occur before `i`. The measure is what
--- is left of the length. Assumes nothing.
-use Prim.Native.Nat.{_-_, _≤_}
+-- `search::find_byte` meets its contract: the first bytes, then the rest. Assumes nothing.
 use mathlib.Core.List.{[], _∷_}
 use native.Mathlib.Omega.{arith}
-use lib.ListN.{length}
-use Rattle.search.proofs.Laws.{Passed, passed-none, passed-end, byte-here, byte-not}
+use borrow.Author.Needs.{needs}
+use lib.ListN.{length-take}
+use Rattle.search.proofs.Laws.{byte-near, byte-far, part-within}
 use Rattle.search.proofs.find_byte.Statement.{statement}
 use Rattle.search.proofs.find_byte.Tie as tie
 
-abbrev Inv-loop : tie.InvT-loop
-Inv-loop b s i₀ i = (i ≤ length s) × Passed (b ∷ []) s i
+slice-aggregate-find-single : tie.Need-slice-aggregate-find-single
+slice-aggregate-find-single c =
+    omega (arith, length-take (c .before .lesser .result) (c .before .before .before .args .s .now), c .before .lesser .ensures)
 
-abbrev μ-loop : tie.MeasureT-loop
-μ-loop b s i₀ i = length s - i
-
-loop-holds : tie.Need-loop-holds Inv-loop μ-loop
-loop-holds c = (omega arith, passed-none (c .args .b ∷ []) (c .args .s .now))
-
-shared-slice-read-if1 : tie.Need-shared-slice-read-if1 Inv-loop μ-loop
-shared-slice-read-if1 c = omega arith
-
-returns : tie.Need-returns Inv-loop μ-loop
+returns : tie.Need-returns
 returns c =
-    let at = c .before .before .before in
-    byte-here (at .before .args .b) (at .before .args .s .now) (at .loop .i) (omega arith) (c .if1 .taken) (at .loop .inv .1)
+    let looked = c .before in
+    let args = looked .before .before .before .before .args in
+    let near = looked .before .before .lesser in
+    byte-near (args .b) (args .s .now) (near .result) (looked .find-single .result) (omega (arith, near .ensures)) (looked .find-single .ensures)
+    (omega arith)
 
-add-i : tie.Need-add-i Inv-loop μ-loop
-add-i c = omega arith
+add-result : tie.Need-add-result
+add-result c =
+    let looked = c .before .before .before in
+    let args = looked .before .before .before .before .args in
+    let near = looked .before .before .lesser in
+    omega (arith, part-within (args .b ∷ []) (args .s .now) (near .result) (c .find-far .result) (omega (arith, near .ensures)) (c .find-far .ensures))
 
-loop-less : tie.Need-loop-less Inv-loop μ-loop
-loop-less c = omega arith
-
-loop-again : tie.Need-loop-again Inv-loop μ-loop
-loop-again c =
-    let at = c .before .before .before in
-    (omega arith, byte-not (at .before .args .b) (at .before .args .s .now) (at .loop .i) (omega arith) (c .if1 .left) (at .loop .inv .1))
-
-returns-2 : tie.Need-returns-2 Inv-loop μ-loop
+returns-2 : tie.Need-returns-2
 returns-2 c =
-    let at = c .before in
-    passed-end (at .before .args .b ∷ []) (at .before .args .s .now) (at .loop .i) (omega arith) (at .loop .inv .1)
+    let looked = c .before .before .before in
+    let args = looked .before .before .before .before .args in
+    let near = looked .before .before .lesser in
+    byte-far (args .b) (args .s .now) (near .result) (looked .find-single .result) (c .find-far .result) (omega (arith, near .ensures))
+    (looked .find-single .ensures) (omega arith) (c .find-far .ensures)
 
 pub find-byte-spec : {M : Type 1} → statement M
 find-byte-spec =
     tie.close
     (tie.spec
-    Inv-loop
-    μ-loop
-    loop-holds
-    shared-slice-read-if1
+    (λ c κs. search needs)
+    slice-aggregate-find-single
+    (λ c κs. search needs)
     returns
-    add-i
-    loop-less
-    loop-again
+    (λ c. omega arith)
+    (λ c. search needs)
+    (λ c. search needs)
+    (λ c κs. search needs)
+    add-result
     returns-2)

@@ -6,6 +6,7 @@ pub mod cuts;
 pub mod damaged;
 pub mod limits;
 pub mod listings;
+pub mod marks;
 pub mod pairs;
 pub mod rich;
 pub mod valid;
