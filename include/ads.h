@@ -23,8 +23,8 @@ extern "C" {
 #endif
 
 /* The version of this header and of its library; the number is major * 1000000 + minor * 1000 + patch. */
-#define ADS_VERSION "0.5.2"
-#define ADS_VERSION_NUMBER 5002
+#define ADS_VERSION "0.5.3"
+#define ADS_VERSION_NUMBER 5003
 
 /* ---- sizes */
 

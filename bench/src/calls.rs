@@ -2,6 +2,7 @@
 
 use std::hint::black_box;
 
+use compare::both::BLANK;
 use compare::build::File;
 use compare::ffi::{self, Table};
 use plain::Row;
@@ -9,15 +10,26 @@ use plain::Row;
 use crate::files;
 
 pub fn proved_reading(file: &File) -> impl FnMut() + '_ {
-    let count = file.rows.len();
-    let mut table = Table::new(count + 1);
-    move || assert_eq!(black_box(ffi::read(black_box(&file.bytes), &mut table)).count, count)
+    proved_rows(&file.bytes, file.rows.len())
 }
 
 pub fn plain_reading(file: &File) -> impl FnMut() + '_ {
-    let count = file.rows.len();
-    let mut rows: Vec<Row> = vec![file.rows[0]; count + 1];
-    move || assert_eq!(black_box(plain::read(black_box(&file.bytes), &mut rows)).count, count)
+    plain_rows(&file.bytes, file.rows.len())
+}
+
+/// A reading that must give so many rows.
+pub fn proved_rows(bytes: &[u8], count: usize) -> impl FnMut() + '_ {
+    let mut table = Table::new(count + 1);
+    move || assert_eq!(black_box(ffi::read(black_box(bytes), &mut table)).count, count)
+}
+
+pub fn plain_rows(bytes: &[u8], count: usize) -> impl FnMut() + '_ {
+    let mut rows: Vec<Row> = vec![BLANK; count + 1];
+    move || assert_eq!(black_box(plain::read(black_box(bytes), &mut rows)).count, count)
+}
+
+pub fn proved_contents(bytes: &[u8], row: usize) -> impl FnMut() + '_ {
+    move || assert_eq!(black_box(ffi::contents(black_box(bytes), row)).number, 0)
 }
 
 pub fn summed(file: &File) -> impl FnMut() + '_ {

@@ -1,8 +1,9 @@
 //! The files that are read.
 
-use compare::build::{Chunk, Closing, Contents, File, Times, Type};
-use compare::generate::{with_check, MULTI_CHUNK};
+use compare::build::{Contents, File, Type};
+use compare::generate::with_check;
 use compare::random::Random;
+use compare::simple::{chunk, closing, times};
 use plain::Serial;
 
 pub const MIB: usize = 1 << 20;
@@ -20,44 +21,8 @@ pub fn serial(number: usize) -> Serial {
     with_check(first.into_bytes().try_into().expect("35 bytes"))
 }
 
-fn closing(number: usize) -> Closing {
-    Closing {
-        serial: serial(number),
-        recorded: *b"20240229",
-        recorder: b"RECORDER".to_vec(),
-        written: *b"20240301",
-        writer: b"WRITER".to_vec(),
-        sum_off: 0,
-    }
-}
-
-fn times() -> Times {
-    Times {
-        synch: *b"GEN",
-        standard: *b"UTC",
-        alternate: [b' '; 38],
-        offset: *b"+0000      8.035",
-        value: 80_350_000_000,
-        event: *b"NUL",
-        linked: [b' '; 38],
-    }
-}
-
-fn chunk(number: usize, contents: Contents) -> Chunk {
-    let multi = matches!(contents, Contents::Multi(..));
-    Chunk {
-        sub_format: if multi { MULTI_CHUNK.to_vec() } else { b"ADS\\DATA\\TEST".to_vec() },
-        generic: *b"TXT",
-        times: times(),
-        dependencies: Vec::new(),
-        specific: Vec::new(),
-        contents,
-        closing: closing(number),
-    }
-}
-
 fn header(nul: bool, mark: &[u8]) -> File {
-    File::new(nul, mark, &closing(999_999))
+    File::new(nul, mark, &closing(serial(999_999)))
 }
 
 /// So many counted chunks of so many bytes. The last one has these rows as parents.
@@ -68,13 +33,13 @@ pub fn counted(chunks: usize, bytes: usize, parents: &[usize]) -> File {
 /// So many empty chunks, with spaces in front of the numbers at random.
 pub fn padded(chunks: usize) -> File {
     let random = Random::new(1, "padded", 0);
-    with_counted(File::padded(false, b"", &closing(999_999), random), chunks, 0, &[])
+    with_counted(File::padded(false, b"", &closing(serial(999_999)), random), chunks, 0, &[])
 }
 
 fn with_counted(mut file: File, chunks: usize, bytes: usize, parents: &[usize]) -> File {
     let mut random = Random::new(1, "counted", 0);
     for number in 0..chunks {
-        let mut chunk = chunk(number, Contents::Counted(random.bytes(bytes)));
+        let mut chunk = chunk(serial(number), Contents::Counted(random.bytes(bytes)));
         if number + 1 == chunks {
             chunk.dependencies = parents.iter().map(|&row| (serial(row), chunk.sub_format.clone())).collect();
         }
@@ -89,7 +54,7 @@ pub fn open(chunks: usize, bytes: usize) -> File {
     let mark = random.text(90);
     let mut file = header(true, &mark);
     for number in 0..chunks {
-        file.push(&chunk(number, Contents::Open(random.bytes(bytes))));
+        file.push(&chunk(serial(number), Contents::Open(random.bytes(bytes))));
     }
     file
 }
@@ -120,6 +85,6 @@ pub fn multi(mini_chunks: usize, bytes: usize) -> File {
         .collect();
     let minis = (0..mini_chunks).map(|number| (number % 4, random.bytes(bytes))).collect();
     let mut file = header(false, b"");
-    file.push(&chunk(0, Contents::Multi(types, minis)));
+    file.push(&chunk(serial(0), Contents::Multi(types, minis)));
     file
 }

@@ -6,11 +6,12 @@
 
 mod calls;
 mod files;
+mod many;
 mod timing;
 
 use std::hint::black_box;
 
-use calls::{plain_append, plain_reading, proved_append, proved_reading, summed};
+use calls::{plain_append, plain_reading, proved_append, proved_contents, proved_reading, summed};
 use compare::build::File;
 use compare::ffi;
 use compare::kernels;
@@ -54,9 +55,9 @@ struct Report {
 type Part = (&'static str, fn(&mut Vec<f64>) -> Report);
 
 #[rustfmt::skip]
-const PARTS: [Part; 9] = [
+const PARTS: [Part; 11] = [
     ("sums", both_sums), ("i", large), ("ii", small), ("iii", open), ("iv", mini_chunks), ("v", growth),
-    ("vii", small_open), ("viii", hostile_marks), ("append", long_append),
+    ("vii", small_open), ("viii", hostile_marks), ("ix", many::growth), ("x", many::hostile), ("append", long_append),
 ];
 
 type Sum = fn(&[u8]) -> u8;
@@ -115,7 +116,7 @@ fn small(times: &mut Vec<f64>) -> Report {
         (1, &mut || assert!(black_box(plain::parent(black_box(bytes), last, 1)).is_ok_and(|found| found.is_some()))),
         (1, &mut || assert!(black_box(ffi::parent(black_box(bytes), last, 2)).found)),
         (1, &mut || assert!(black_box(plain::parent(black_box(bytes), last, 2)).is_ok_and(|found| found.is_some()))),
-        (1, &mut || assert_eq!(black_box(ffi::contents(black_box(bytes), last)).number, 0)),
+        (1, &mut proved_contents(bytes, last)),
         (1, &mut || assert!(black_box(plain::contents(black_box(bytes), last)).is_ok())),
         (1, &mut proved_append(for_proved, bytes.len(), &[7, last], b"a few bytes")),
         (1, &mut plain_append(for_plain, bytes.len(), &[7, last], b"a few bytes")),
@@ -229,7 +230,7 @@ fn long_append(times: &mut Vec<f64>) -> Report {
             (1, &mut || {
                 black_box(calls::copied_and_summed(black_box(&data), &mut copy));
             }),
-            (1, &mut || assert_eq!(black_box(ffi::contents(black_box(&file.bytes), 63)).number, 0)),
+            (1, &mut proved_contents(&file.bytes, 63)),
         ],
     );
     assert!(lent[0] == lent[1]);

@@ -20,14 +20,19 @@ pub fn best(kept: &mut Vec<f64>, calls: &mut [Call]) {
     kept.resize(calls.len(), f64::INFINITY);
     let enough = ENOUGH * calls.len() as u32;
     let start = Instant::now();
-    for turn in 0.. {
-        if turn >= 3 && start.elapsed() > enough || turn >= 100 {
+    for turns in 0.. {
+        if turns >= 3 && start.elapsed() > enough || turns >= 100 {
             break;
         }
-        for ((repeated, call), best) in calls.iter_mut().zip(&mut *kept) {
-            for _ in 0..*repeated {
-                *best = once(*call).as_secs_f64().min(*best);
-            }
+        turn(kept, calls);
+    }
+}
+
+/// One turn: each call so often, and its best time kept.
+pub fn turn(kept: &mut [f64], calls: &mut [Call]) {
+    for ((repeated, call), best) in calls.iter_mut().zip(kept) {
+        for _ in 0..*repeated {
+            *best = once(*call).as_secs_f64().min(*best);
         }
     }
 }

@@ -30,7 +30,7 @@ from ._opening import open, read
 from ._rows import Ending, Row, most_rows
 from ._writing import Appended, Description, append, append_into, begin, room_for, serial_number
 
-__version__ = "0.5.2"
+__version__ = "0.5.3"
 
 __all__ = [
     "open", "read", "File", "Row", "Ending", "Parent", "Dependency", "begin", "append", "append_into", "room_for",

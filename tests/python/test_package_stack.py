@@ -12,11 +12,16 @@ from typing import Any, Callable
 from unittest import mock
 
 import support
+from large_files import empty_chunks
+from metafile_bytes import header, plain, serial
 from support import SAMPLE
 
 import ads_metafile
 from ads_metafile import _library, _stack
 from ads_metafile._memory import Lent
+
+# processors of serial numbers that have one hash in the library (tests/compare/src/hashes.rs)
+ONE_HASH = ("OOOOOOOOOOOO", "OOIPOOIOOOSL")
 
 READ = """
 import sys
@@ -52,6 +57,20 @@ class SmallStacks(unittest.TestCase):
         for size, small in ((32 * 1024, True), (64 * 1024, True), (256 * 1024, True), (8 * 2**20, False)):
             with self.subTest(size):
                 self.assertEqual(in_thread(work, size), (small, *answers))
+
+    def test_reading_ahead(self) -> None:
+        """Two serial numbers with one hash: from there on a reading looks ahead, which takes most stack. A thread with
+        just enough of it makes the call itself."""
+        data = header("LLC", b"") + b"".join(plain(b"", serial("00042", processor=of), b"") for of in ONE_HASH)
+        data += empty_chunks(2000)[len(header("LLC", b"")):]
+
+        def work() -> tuple[Any, ...]:
+            with ads_metafile.read(data) as file:
+                return _stack.room() < _stack.NEEDED, file.clean, len(file), bytes(file.contents(2001))
+
+        for size, small in ((64 * 1024, True), (_stack.NEEDED + 64 * 1024, False)):
+            with self.subTest(size):
+                self.assertEqual(in_thread(work, size), (small, True, 2002, b""))
 
     def test_small_limit(self) -> None:
         """The main thread of a process under a limit of 512 KiB."""

@@ -4,7 +4,7 @@
 --     dependencies-below header-below offset-formed   what they say of their values
 --     lengths-..          the answers on the two lengths; header-bytes-is: the header's bytes
 --     dependencies-..     the loop over the dependencies
---     HeaderWhole         what a header without a fault says
+--     HeaderWhole         what a header without a fault says; headless-of: of one with a fault the number alone
 -- Assumes nothing.
 use Prim.Native.Nat.{ℕ, zero, suc, _+_, _-_, _*_, _≤_, _<_}
 use mathlib.Core.Bool.{Bool, true, false, not, _&&_, _||_}
@@ -13,12 +13,12 @@ use mathlib.Core.List.{List, [], _∷_, _++_}
 use native.Mathlib.Omega.{arith}
 use lib.Dec.{leb, eqb}
 use lib.ListN.{length, take, drop, replicate, take-append-drop}
-use lib.Seq.{drop-drop, length-take-le}
+use lib.Seq.{length-take-le}
 use borrow.Author.Tests.{leb-true, le-leb, lt-leb, eq-eqb, ne-eqb}
 use Rattle.metafile.specs.Bytes.{bytes, part, _⊳_, require, isZero, same}
 use Rattle.metafile.specs.Fields.{isCount, countValue, padded, isOffset}
 use Rattle.metafile.specs.Lines.{count, offset, free, fixed, value, Line, lf, i12, i4, opened, linesOf, countFault, offsetFault, kindFault, fault, run, table, chunkHeaderLength, subFormatID, genericType, timeSynchType, timeStandard, timeOffset, dependencyCount}
-use Rattle.metafile.specs.Chunk.{headLines, head, headerLength, offsetBytes, dependencyBytes, dependencies, multiName, isMulti, dependencyLengthFor, headerLengthFor, headerBytesFor, specific, lengthsFault, dependencyFields, specificPlace, headerBytes, chunkHeaderFault}
+use Rattle.metafile.specs.Chunk.{headLines, head, headerLength, offsetBytes, dependencies, multiName, isMulti, dependencyLengthFor, headerLengthFor, headerBytesFor, specific, lengthsFault, dependencyFields, specificPlace, headerBytes, chunkHeaderFault}
 use Rattle.table.specs.Codes.{lineNo, linesFrom}
 use Rattle.lines.specs.declared.reader.Taken.{Taken}
 use Rattle.lines.specs.Parts.{fieldNo, Takes}
@@ -28,7 +28,9 @@ use Rattle.laws.proofs.Loops.{part-drop}
 use Rattle.laws.proofs.Table.{field-own, run-enough, run-split, run-at}
 use Rattle.laws.proofs.Distances.{lines, size-head}
 use Rattle.chunk_laws.proofs.Chunk.{size-free, size-behind-count}
-use Rattle.laws.proofs.Stages.{stop, go, fits}
+use Rattle.laws.proofs.Stages.{fits}
+use Rattle.chunk.specs.declared.parts.Head.{Head}
+use Rattle.chunk.specs.Layout.{Numbers, headless, HeadOf}
 use Rattle.chunk.proofs.Stages.{free-short, free-long}
 
 -- ---- "If, and only if, SubFormat_ID is ADS\SYS\MultiChunk"
@@ -92,11 +94,6 @@ module _ (s : List ℕ) (e : run head s ≡ 0) where
       require-true _ 5 (field-own 16 offsetFault (drop 426 s) f)
 
 -- ---- the two lengths: the numbers read are the dependency count n, the dependency length d, the header length h
-
-pub record Numbers (s : List ℕ) (n d h : ℕ) : Type 0 where
-  pub n-is : n ≡ dependencies s
-  pub d-is : d ≡ dependencyBytes s
-  pub h-is : h ≡ headerLength s
 
 module _ {s : List ℕ} {n d h : ℕ} (e : Numbers s n d h) where
   second : ℕ
@@ -238,3 +235,9 @@ header-whole s e =
     let d = dependencies-long (dependencies s) s l (⊳-left _ _ e3) in
     let f = fits (value (free (specific s)) ∷ []) (specific s) (specificPlace s) s (size-free (specific s)) (omega arith) (⊳-right _ _ e3) in
     record { in-head = ⊳-left _ _ e; in-lengths = ⊳-left _ _ e2; long = l; inside = omega arith }
+
+pub headless-of : (h : Head) (s : List ℕ) (n : ℕ) → h ≡ headless n → n ≡ chunkHeaderFault s → (n ≡ 0 → ⊥) → HeadOf h s
+unfolding headless
+headless-of h s n e f x =
+    let is : h .number ≡ n = ap (λ (k : Head). k .number) e in
+    record { fault = is ∙ f; bytes-are = λ z. absurd (x (sym is ∙ z)); count-is = λ z. absurd (x (sym is ∙ z)) }

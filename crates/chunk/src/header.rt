@@ -8,8 +8,10 @@ ghost use Rattle.metafile.specs.Bytes.{same};
 ghost use Rattle.metafile.specs.Lines.{lf, linesOf, run};
 ghost use Rattle.table.specs.Codes.{linesFrom};
 ghost use Rattle.lines.specs.Parts.{Takes};
-ghost use Rattle.metafile.specs.Chunk.{head, dependencies, multiName, isMulti, lengthsFault, dependencyFields, headerBytes, chunkHeaderFault};
+ghost use Rattle.metafile.specs.Chunk.{head, dependencies, multiName, isMulti, lengthsFault, dependencyFields, headerBytes};
+ghost use Rattle.chunk.specs.Layout.{Numbers, headless, HeadOf};
 use crate::counts::count_at;
+use crate::parts::Head;
 use lines::Taken;
 use lines::reader::END;
 use metafile::refusals;
@@ -67,17 +69,16 @@ fn head_fault(s: &[u8]) -> u8
     lines::dependency_count_fault(s)
 }
 
-// The dependency length, then the header length; a MultiChunk has no specific data.
-fn lengths_fault(s: &[u8]) -> u8
-    requires { ⌜ run head (now s) ≡ 0 ⌝ }
+// The dependency length, then the header length; a MultiChunk has no specific data. The numbers are those of the header: the
+// dependency count and the two lengths.
+fn numbers_fault(s: &[u8], n: usize, announced: usize, header: usize) -> u8
+    requires lines { ⌜ run head (now s) ≡ 0 ⌝ }
+    requires numbers { ⌜ Numbers (now s) n announced header ⌝ }
     ensures { λ r. ⌜ r ≡ lengthsFault (now (s .entry)) ⌝ }
 {
-    let n = dependencies(s);
-    let announced = count_at(s, places::DEPENDENCY_LENGTH, places::LENGTH);
     if announced != places::LEAST_DEPENDENCY_LENGTH + places::DEPENDENCY_BYTES * n {
         return refusals::LENGTH;
     }
-    let header = count_at(s, places::HEADER_LENGTH, places::LENGTH);
     let least = places::LEAST_HEADER_LENGTH + places::DEPENDENCY_BYTES * n;
     if header < least {
         return refusals::LENGTH;
@@ -133,24 +134,42 @@ fn dependencies_fault(s: &[u8], n: usize) -> u8
     0
 }
 
-// The first fault of the header.
-pub fn header_fault(s: &[u8]) -> u8
-    ensures { λ r. ⌜ r ≡ chunkHeaderFault (now (s .entry)) ⌝ }
+fn no_head(number: u8) -> Head
+    ensures { λ r. ⌜ r ≡ headless number ⌝ }
+{
+    Head {
+        number,
+        bytes: 0,
+        dependencies: 0,
+    }
+}
+
+// The first fault of the header, or what it says. Each number is valued once.
+pub fn head(s: &[u8]) -> Head
+    ensures { λ r. ⌜ HeadOf r (now (s .entry)) ⌝ }
 {
     let fault = head_fault(s);
     if fault != 0 {
-        return fault;
+        return no_head(fault);
     }
-    let wrong = lengths_fault(s);
+    let n = dependencies(s);
+    let announced = count_at(s, places::DEPENDENCY_LENGTH, places::LENGTH);
+    let header = count_at(s, places::HEADER_LENGTH, places::LENGTH);
+    let wrong = numbers_fault(s, n, announced, header);
     if wrong != 0 {
-        return wrong;
+        return no_head(wrong);
     }
-    let broken = dependencies_fault(s, dependencies(s));
+    let broken = dependencies_fault(s, n);
     if broken != 0 {
-        return broken;
+        return no_head(broken);
     }
-    if s.len() < header_bytes(s) {
-        return refusals::SHORT;
+    let bytes = header + places::HEADER_LENGTH_END;
+    if s.len() < bytes {
+        return no_head(refusals::SHORT);
     }
-    0
+    Head {
+        number: 0,
+        bytes,
+        dependencies: n,
+    }
 }

@@ -44,11 +44,12 @@ fn refused(number: u8) -> Layout
 pub fn layout(s: &[u8], llc: bool, mark: &[u8]) -> Layout
     ensures { λ r. ⌜ r ≡ layoutOf llc (now (mark .entry)) (now (s .entry)) ⌝ }
 {
-    let fault = header::header_fault(s);
+    let head = header::head(s);
+    let fault = head.number;
     if fault != 0 {
         return refused(fault);
     }
-    let header = header::header_bytes(s);
+    let header = head.bytes;
     let multichunk = header::is_multi(s);
     let part = contents::contents_part(&s[header..], multichunk, llc, mark);
     let number = part.number;
@@ -68,7 +69,7 @@ pub fn layout(s: &[u8], llc: bool, mark: &[u8]) -> Layout
         contents,
         bytes: part.bytes,
         end,
-        dependencies: header::dependencies(s),
+        dependencies: head.dependencies,
         multichunk,
     }
 }

@@ -20,7 +20,7 @@ pub fn part_of(file: &[u8], row: usize) -> Part
     ensures { λ r. ⌜ r ≡ partOf (now (file .entry)) row ⌝ }
 {
     let mut index = [0u32; walk::INDEX];
-    let own = walk::row_of(file, row, &mut index);
+    let own = walk::row_of(file, row, row, &mut index);
     if own.number != 0 {
         return Part {
             place: 0,

@@ -6,20 +6,24 @@
 --     seconds-below                          below 60 is a matter of the digits before the point
 --     powers-at                              the table of powers
 --     whole-le, decimal-value                the value as the code adds it up
+--     before-.., behind-.., parts-few        the parts as the code passes over them, each from the end of the one before
+--     seconds-formed                         the test as the code joins it
 -- Assumes nothing.
 use Prim.Native.Nat.{ℕ, suc, _+_, _-_, _*_, _^_, _≤_, _<_}
+use mathlib.Core.Bool.{Bool, _&&_}
 use mathlib.Core.Path.{_≡_, refl, sym, ap, _∙_}
-use mathlib.Core.List.{List, [], _∷_}
+use mathlib.Core.List.{List, [], _∷_, _++_}
 use native.Mathlib.Omega.{arith}
 use native.Mathlib.Nat.{mul-lt-mul-of-pos-right, one-le-pow}
-use lib.Dec.{ltb, eqb}
-use lib.ListN.{length, take, drop, getD}
+use lib.Dec.{leb, ltb, eqb}
+use lib.ListN.{length, take, drop, getD, length-append}
 use lib.Pow.{pow-add}
 use lib.Seq.{take-length}
 use borrow.Author.Tests.{eq-eqb, ne-eqb, ltb-true, ltb-false, lt-ltb, le-ltb}
-use Rattle.metafile.specs.Fields.{isDigit, isSpace, number, takeWhile, dropWhile, pointPassed, digitsBefore, pointOn, digitsBehind, second, decimalUnits}
+use Rattle.metafile.specs.Bytes.{all}
+use Rattle.metafile.specs.Fields.{isDigit, isSpace, number, takeWhile, dropWhile, pointPassed, digitsBefore, pointOn, digitsBehind, spacesBehind, isDecimal, second, decimalUnits}
 use Rattle.laws.proofs.First.{test}
-use Rattle.fields.proofs.Prefix.{prefix-le, rest-le, rest-stops}
+use Rattle.fields.proofs.Prefix.{within, spaces-passed, prefix-is, rest-is, prefix-le, rest-le, rest-stops}
 use Rattle.fields.proofs.Digits.{number-append, digits-below}
 use Rattle.fields.proofs.Tables.{table, table-at}
 
@@ -117,3 +121,44 @@ module _ (v : List ℕ) (l : length v ≡ 11) (x : ℕ) (e : x ≡ number (digit
       → x * 10000000000 + y * getD powers (10 - length t) 0 ≡ decimalUnits v
   unfolding second
   decimal-value y t q r = rw (r, powers-at (10 - length t) (omega arith), q, e) (decimal-units v l)
+
+-- ---- as the code passes over the parts: t behind the spaces, n digits, u behind the point, k digits
+
+module _ (v t : List ℕ) (n : ℕ) (p : t ≡ dropWhile (within 32 32) v) (q : n ≡ length (takeWhile (within 48 57) t)) where
+  pub before-taken : take n t ≡ digitsBefore v
+  unfolding digitsBefore isDigit
+  before-taken = prefix-is (within 48 57) t n q ∙ ap (takeWhile (within 48 57)) (p ∙ spaces-passed v)
+
+  pub before-count : n ≡ length (digitsBefore v)
+  unfolding digitsBefore isDigit
+  before-count = q ∙ ap (λ (l : List ℕ). length (takeWhile (within 48 57) l)) (p ∙ spaces-passed v)
+
+  module _ (u : List ℕ) (r : u ≡ pointPassed (take (length t - n) (drop n t))) where
+    rest-passed : u ≡ pointPassed (pointOn v)
+    unfolding pointOn isDigit
+    rest-passed = r ∙ ap pointPassed (rest-is (within 48 57) t n q ∙ ap (dropWhile (within 48 57)) (p ∙ spaces-passed v))
+
+    pub behind-taken : takeWhile isDigit u ≡ digitsBehind v
+    unfolding digitsBehind
+    behind-taken = ap (takeWhile isDigit) rest-passed
+
+    module _ (k : ℕ) (w : k ≡ length (takeWhile (within 48 57) u)) where
+      pub behind-count : k ≡ length (digitsBehind v)
+      unfolding isDigit
+      behind-count = w ∙ ap length behind-taken
+
+      pub parts-few : n + k ≤ length v + length v
+      parts-few = omega (arith, before-count, behind-count, before-le v, behind-short v)
+
+      spaces-left : take (length u - k) (drop k u) ≡ spacesBehind v
+      unfolding spacesBehind isDigit
+      spaces-left = rest-is (within 48 57) u k w ∙ ap (dropWhile (within 48 57)) rest-passed
+
+      pub seconds-formed : length v ≡ 11 → (b : Bool) → b ≡ all isSpace (take (length u - k) (drop k u)) → (x : ℕ) → x ≡ number (take n t)
+          → ((leb 1 (n + k) && b) && ltb x 60) ≡ (isDecimal v && ltb (decimalUnits v) (60 * second))
+      unfolding isDecimal
+      seconds-formed l b e x f =
+          let some : n + k ≡ length (digitsBefore v ++ digitsBehind v)
+          = omega (arith, before-count, behind-count, length-append (digitsBefore v) (digitsBehind v)) in
+          let less : ltb x 60 ≡ ltb (decimalUnits v) (60 * second) = ap (λ (y : ℕ). ltb y 60) (f ∙ ap number before-taken) ∙ seconds-below v l in
+          rw (some, e ∙ ap (all isSpace) spaces-left, less)

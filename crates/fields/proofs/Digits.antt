@@ -8,7 +8,7 @@
 --     number-append             the number of two runs of bytes, one behind the other
 --     digits-below              n digits come to less than 10^n
 --     digits-to                 what the test tells
---     count-none, count-plain   a count of no bytes; one that has no space in front
+--     count-none, count-digits  a count of no bytes; one of digits alone
 --     nothing-is                a count is 0 where no byte is above "0"
 -- Assumes nothing.
 use Prim.Native.Nat.{ℕ, zero, suc, _+_, _-_, _*_, _^_, _≤_, _<_}
@@ -103,10 +103,19 @@ unfolding isCount dropWhile
 count-none [] e = refl
 count-none (x ∷ s) e = absurd (omega arith)
 
-pub count-plain : (s : List ℕ) → (length s ≡ 0 → ⊥) → (getD s 0 0 ≡ 32 → ⊥) → all isDigit s ≡ isCount s
+count-plain : (s : List ℕ) → (length s ≡ 0 → ⊥) → (getD s 0 0 ≡ 32 → ⊥) → all isDigit s ≡ isCount s
 unfolding isCount dropWhile isSpace
 count-plain [] n h = absurd (n refl)
 count-plain (x ∷ s) n h = rw (ne-eqb x 32 h, le-leb 1 (suc (length s)) (omega arith))
+
+first-digit : (s : List ℕ) → (length s ≡ 0 → ⊥) → all isDigit s ≡ true → 48 ≤ getD s 0 0
+unfolding all isDigit
+first-digit [] n e = absurd (n refl)
+first-digit (x ∷ s) n e =
+    leb-true 48 x (and-both (leb 48 x) (leb x 57) (and-both (isDigit x) (all isDigit s) e .0) .0)
+
+pub count-digits : (s : List ℕ) → (length s ≡ 0 → ⊥) → all isDigit s ≡ true → true ≡ isCount s
+count-digits s n e = sym e ∙ count-plain s n (λ h. omega (arith, first-digit s n e, h))
 
 -- ---- a count of 0
 

@@ -2,7 +2,7 @@
 // serial numbers, as the scope paper has them under "Text fields". A test answers yes or no, a value is total on the
 // bytes that its contract asks for, and each contract equates the answer with the definition of that name in the
 // metafile crate (specs/Fields). Tests are joined by & and |: all are made, with no branch between them; only a count that
-// begins with a space is judged in another way.
+// is not digits alone is judged in another way.
 // It rests on `sums` for the serial number's check and on `search` for equal bytes.
 //     numbers   digits, number fields, counts, texts
 //     dates     dates

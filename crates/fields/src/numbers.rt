@@ -111,17 +111,17 @@ fn is_padded(s: &[u8]) -> bool
     (1 <= rest.len()) & (leading(rest, b'0', b'9') == rest.len())
 }
 
-// Most have no space in front, and are digits.
+// Most are digits alone.
 pub fn is_count(s: &[u8]) -> bool
     ensures { λ r. ⌜ r ≡ isCount (now (s .entry)) ⌝ }
 {
     if s.len() == 0 {
         return false;
     }
-    if s[0] == b' ' {
-        return is_padded(s);
+    if is_digits(s) {
+        return true;
     }
-    is_digits(s)
+    is_padded(s)
 }
 
 // A space in front is below "0" and counts nothing.

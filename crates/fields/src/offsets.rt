@@ -3,12 +3,11 @@
 ghost use mathlib.Core.Path.{_≡_};
 ghost use mathlib.Core.Bool.{true, cond, _&&_};
 ghost use Prim.Native.Nat.{_*_, _^_, _<_};
-ghost use lib.Dec.{leb, ltb};
+ghost use lib.Dec.{ltb};
 ghost use lib.IntN.{pos, negℤ};
 ghost use lib.ListN.{length};
 ghost use Rattle.metafile.specs.Bytes.{all};
-ghost use Rattle.metafile.specs.Fields.{isDigit, isSpace, takeWhile, dropWhile};
-ghost use Rattle.metafile.specs.Fields.{pointPassed, digitsBefore, pointOn, digitsBehind, spacesBehind};
+ghost use Rattle.metafile.specs.Fields.{isDigit, isSpace, takeWhile, pointPassed};
 ghost use Rattle.metafile.specs.Fields.{isDecimal, second, decimalUnits, isOffset, offsetValue};
 use crate::numbers::after;
 use crate::numbers::digits_at;
@@ -39,42 +38,24 @@ fn point_passed(s: &[u8]) -> &[u8]
     s
 }
 
-fn digits_before(s: &[u8]) -> &[u8]
-    ensures { λ r. ⌜ now r ≡ digitsBefore (now (s .entry)) ⌝ }
+fn only_spaces(s: &[u8]) -> bool
+    ensures { λ r. ⌜ r ≡ all isSpace (now (s .entry)) ⌝ }
 {
-    digits(after(s, b' ', b' '))
-}
-
-// What follows the digits before the point, without the point.
-fn fraction(s: &[u8]) -> &[u8]
-    ensures { λ r. ⌜ now r ≡ pointPassed (pointOn (now (s .entry))) ⌝ }
-{
-    point_passed(after(after(s, b' ', b' '), b'0', b'9'))
-}
-
-fn digits_behind(s: &[u8]) -> &[u8]
-    ensures { λ r. ⌜ now r ≡ digitsBehind (now (s .entry)) ⌝ }
-{
-    digits(fraction(s))
-}
-
-fn only_spaces_behind(s: &[u8]) -> bool
-    ensures { λ r. ⌜ r ≡ all isSpace (spacesBehind (now (s .entry))) ⌝ }
-{
-    let rest = after(fraction(s), b'0', b'9');
-    leading(rest, b' ', b' ') == rest.len()
+    leading(s, b' ', b' ') == s.len()
 }
 
 // ---- seconds
 
-// A decimal in form, below 60: the digits before the point decide.
+// A decimal in form, below 60: the digits before the point decide. Each part is passed over once.
 fn is_seconds(s: &[u8]) -> bool
     requires { ⌜ length (now s) ≡ 11 ⌝ }
     ensures { λ r. ⌜ r ≡ (isDecimal (now (s .entry)) && ltb (decimalUnits (now (s .entry))) (60 * second)) ⌝ }
 {
-    let before = digits_before(s);
-    let behind = digits_behind(s);
-    (1 <= before.len() + behind.len()) & only_spaces_behind(s) & (number(before) < 60)
+    let t = after(s, b' ', b' ');
+    let before = leading(t, b'0', b'9');
+    let u = point_passed(&t[before..]);
+    let behind = leading(u, b'0', b'9');
+    (1 <= before + behind) & only_spaces(&u[behind..]) & (number(&t[..before]) < 60)
 }
 
 const SECOND: u64 = 10000000000;
@@ -99,8 +80,10 @@ fn seconds_value(s: &[u8]) -> u64
     requires { ⌜ decimalUnits (now s) < 60 * second ⌝ }
     ensures { λ r. ⌜ r ≡ decimalUnits (now (s .entry)) ⌝ }
 {
-    let behind = digits_behind(s);
-    number(digits_before(s)) * SECOND + number(behind) * POWERS[10 - behind.len()]
+    let t = after(s, b' ', b' ');
+    let before = leading(t, b'0', b'9');
+    let behind = digits(point_passed(&t[before..]));
+    number(&t[..before]) * SECOND + number(behind) * POWERS[10 - behind.len()]
 }
 
 // The sign comes last; minus zero is 0.

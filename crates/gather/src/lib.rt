@@ -59,7 +59,7 @@ pub fn gather(file: &[u8], row: usize, id: &[u8], buffer: &mut [u8]) -> GatherAn
         return GatherAnswer::Refused(refusals::OVER_LIMIT);
     }
     let mut index = [0u32; walk::INDEX];
-    let own = walk::row_of(file, row, &mut index);
+    let own = walk::row_of(file, row, row, &mut index);
     if own.number != 0 {
         return GatherAnswer::Refused(own.number);
     }

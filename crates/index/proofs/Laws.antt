@@ -2,6 +2,7 @@
 --     same-hash      the same serial number has the same hash, however its check is written: all that is used of sameSerial
 --     one-slot one-tag   so it has one slot and one tag
 --     slot-below     a slot is one of the first 196613
+--     near-here      a place that is found is the place of the hash
 --     place-new      where the place of its hash is empty, no serial number held is this one
 --     holds-none     empty slots hold no serial number
 --     holds-more     one serial number more, its tag at its place, where it may stand already
@@ -9,21 +10,22 @@
 -- The tag of a serial number that is held is reached from its slot before an empty slot; entering writes only into an empty
 -- slot, or what stands there, so what was reached before is reached after it.
 -- Assumes nothing.
-use Prim.Native.Nat.{ℕ, zero, suc, _+_, _*_, _<_}
+use Prim.Native.Nat.{ℕ, zero, suc, _+_, _-_, _≤_, _<_}
 use mathlib.Core.Bool.{true, false, _||_}
 use mathlib.Core.Path.{_≡_, refl, sym, ap, _∙_}
 use mathlib.Core.List.{List, [], _∷_, _++_}
 use native.Mathlib.Omega.{arith}
-use lib.Dec.{eqb}
+use lib.Dec.{eqb, ltb}
 use lib.ListN.{length, take, drop, getD, set, replicate, length-drop, length-set, length-replicate}
 use lib.Seq.{take-take, drop-set-lt, drop-set-add, getD-drop, set-getD}
 use borrow.Author.Tests.{eqb-true, eq-eqb}
-use Rattle.metafile.specs.Bytes.{part, isZero}
+use Rattle.metafile.specs.Bytes.{isZero}
 use Rattle.metafile.specs.Fields.{sameSerial, known}
 use Rattle.laws.proofs.First.{test, untrue, or-true, or-left, or-right, isZero-zero}
 use Rattle.laws.proofs.Lists.{drop-take}
 use Rattle.laws.proofs.SameSerial.{same-first}
-use Rattle.index.specs.Index.{joinedBytes, weightedFrom, weights, hashOf, tagOf, slotOf, firstOf, size, placeFor, reached, Holds}
+use Rattle.sums.specs.Lanes.{halfOf}
+use Rattle.index.specs.Index.{wordAt, hashOf, tagOf, slotOf, firstOf, size, placeFor, nearFor, reached, Holds}
 
 -- ---- tags, hashes and slots
 
@@ -31,18 +33,29 @@ tag-some : (h : ℕ) → 0 < tagOf h
 unfolding tagOf
 tag-some h = omega arith
 
--- five bytes for each weight, and no more
-weighted-first : (ws x : List ℕ) → weightedFrom ws x ≡ weightedFrom ws (take (5 * length ws) x)
-unfolding weightedFrom
-weighted-first [] x = refl
-weighted-first (w ∷ ws) x =
-    let n : 5 * length (w ∷ ws) ≡ 5 + 5 * length ws = omega arith in
-    rw (n, take-take 5 (5 + 5 * length ws) x (omega arith), drop-take 5 (5 * length ws) x)
-    (ap (λ (h : ℕ). joinedBytes 0 (part 0 5 x) * w + h) (weighted-first ws (drop 5 x)))
+-- four bytes among the first 35
+word-first : (k : ℕ) (x : List ℕ) → k + 4 ≤ 35 → wordAt k x ≡ wordAt k (take 35 x)
+unfolding wordAt
+word-first k x h =
+    let n : 35 ≡ k + (35 - k) = omega arith in
+    let four : take 4 (drop k (take 35 x)) ≡ take 4 (drop k x) =
+    rw (n, drop-take k (35 - k) x) (take-take 4 (35 - k) (drop k x) (omega arith)) in
+    ap halfOf (sym four)
 
-hash-first : (x : List ℕ) → hashOf x ≡ hashOf (take 35 x)
-unfolding hashOf weights
-hash-first x = weighted-first weights x
+pub hash-first : (x : List ℕ) → hashOf x ≡ hashOf (take 35 x)
+unfolding hashOf
+hash-first x =
+    rw (
+      ← word-first 0 x (omega arith),
+      ← word-first 4 x (omega arith),
+      ← word-first 8 x (omega arith),
+      ← word-first 12 x (omega arith),
+      ← word-first 16 x (omega arith),
+      ← word-first 20 x (omega arith),
+      ← word-first 24 x (omega arith),
+      ← word-first 28 x (omega arith),
+      ← word-first 31 x (omega arith),
+    )
 
 pub same-hash : (x y : List ℕ) → sameSerial x y ≡ true → hashOf x ≡ hashOf y
 same-hash x y e = hash-first x ∙ ap hashOf (same-first x y e) ∙ sym (hash-first y)
@@ -126,6 +139,14 @@ module _ (h : ℕ) (index : List ℕ) where
       rw (← getD-drop (1 + slotOf h) index (firstOf (tagOf h) (drop (1 + slotOf h) index)) 0)
       (first-reached (tagOf h) (drop (1 + slotOf h) index) e)
 
+  -- a place that is near
+  pub near-here : (p : ℕ) → p ≡ nearFor h index → p < length index → p ≡ placeFor h index
+  unfolding nearFor
+  near-here p e l =
+      test (ltb (placeFor h index) (513 + slotOf h))
+      (λ q. rw q at e)
+      (λ q. absurd (omega (arith, rw q at e)))
+
 -- ---- what the index holds
 
 known-append : (y x : List ℕ) (serials : List (List ℕ)) → known y (serials ++ x ∷ []) ≡ (known y serials || sameSerial y x)
@@ -168,6 +189,6 @@ module _ {serials : List (List ℕ)} {index : List ℕ} (w : Holds serials index
         reach = λ x k. rw (drop-set-lt (1 + slotOf (hashOf x)) index 0 n (omega arith)) (w .reach x k);
       }
 
-pub holds-none : Holds [] (replicate 200705 0)
+pub holds-none : Holds [] (replicate 197126 0)
 unfolding size known
-holds-none = record { long = length-replicate {A = ℕ} 200705 0; reach = λ x k. untrue k }
+holds-none = record { long = length-replicate {A = ℕ} 197126 0; reach = λ x k. untrue k }

@@ -1,56 +1,38 @@
 -- What the functions of src/lib.rt need of the definitions in specs/Index.
---     five-is         five bytes of a serial number, as they are handed on; weights-are: seven times five, with their weights
+--     word-is         four bytes of a serial number; nine-are: nine times four, with their weights
 --     square-small    the square of a remainder fits
 --     first-..        the search among the entries: an empty slot, the tag, one entry passed, the end
---     place-..        the place that is found; it lies inside the index, or is its end
+--     place-..        the place that is found: near, or the end
 -- Assumes nothing.
 use Prim.Native.Nat.{ℕ, zero, suc, _+_, _-_, _*_, _≤_, _<_}
-use mathlib.Core.Bool.{true, false, _||_}
-use mathlib.Core.Path.{_≡_, refl, sym, _∙_}
+use mathlib.Core.Bool.{_||_}
+use mathlib.Core.Path.{_≡_, sym, ap, _∙_}
 use mathlib.Core.List.{List, [], _∷_}
 use native.Mathlib.Nat.{mul-le-mul-right}
 use native.Mathlib.Omega.{arith}
 use native.Mathlib.Numerals.{add-one}
 use lib.Dec.{eqb}
-use lib.ListN.{length, take, drop, getD, length-take, drop-of-length-le}
-use lib.Seq.{drop-cons, drop-drop}
-use borrow.Author.Tests.{eq-eqb, ne-eqb}
-use Rattle.metafile.specs.Bytes.{part, isZero}
+use lib.ListN.{length, take, drop, getD, length-drop, drop-of-length-le}
+use lib.Seq.{drop-cons}
+use borrow.Author.Tests.{eq-eqb, ne-eqb, lt-ltb, le-ltb}
+use Rattle.metafile.specs.Bytes.{isZero}
 use Rattle.laws.proofs.First.{test, isZero-is, isZero-not}
-use Rattle.laws.proofs.Loops.{part-drop}
-use Rattle.index.specs.Index.{joinedBytes, weightedFrom, weights, tagOf, slotOf, firstOf, placeFor}
+use Rattle.sums.specs.Lanes.{halfOf}
+use Rattle.index.specs.Index.{wordAt, hashOf, tagOf, slotOf, firstOf, placeFor, nearFor}
 
 -- ---- the hash
 
-one : (x : List ℕ) (i j n : ℕ) → i < length x → j ≡ suc i → part i (suc n) x ≡ getD x i 0 ∷ part j n x
-one x i j n h e = rw (drop-cons x i 0 h, e)
+-- four bytes in the part that is handed on
+pub word-is : (x : List ℕ) (k : ℕ) → halfOf (take (k + 4 - k) (drop k x)) ≡ wordAt k x
+unfolding wordAt
+word-is x k = let n : k + 4 - k ≡ 4 = omega arith in rw n
 
-five : (x : List ℕ) (i : ℕ) → i + 5 ≤ length x
-    → part i 5 x ≡ getD x i 0 ∷ getD x (i + 1) 0 ∷ getD x (i + 2) 0 ∷ getD x (i + 3) 0 ∷ getD x (i + 4) 0 ∷ []
-five x i h =
-    rw (
-      one x i (i + 1) 4 (omega arith) (omega arith),
-      one x (i + 1) (i + 2) 3 (omega arith) (omega arith),
-      one x (i + 2) (i + 3) 2 (omega arith) (omega arith),
-      one x (i + 3) (i + 4) 1 (omega arith) (omega arith),
-      one x (i + 4) (i + 5) 0 (omega arith) (omega arith),
-    )
-
--- the five bytes at i, joined, where they are handed on one by one
-pub five-is : (x : List ℕ) (i r : ℕ) → i + 5 ≤ length x
-    → r ≡ joinedBytes 0 (getD x i 0 ∷ getD x (i + 1) 0 ∷ getD x (i + 2) 0 ∷ getD x (i + 3) 0 ∷ getD x (i + 4) 0 ∷ [])
-    → joinedBytes 0 (part i 5 x) ≡ r
-five-is x i r h e = rw (five x i h) (sym e)
-
-pub weights-are : (x : List ℕ)
-    → weightedFrom weights x
-    ≡ joinedBytes 0 (part 0 5 x) * 48271
-    + (joinedBytes 0 (part 5 5 x) * 69621
-    + (joinedBytes 0 (part 10 5 x) * 16807
-    + (joinedBytes 0 (part 15 5 x) * 39373
-    + (joinedBytes 0 (part 20 5 x) * 62089 + (joinedBytes 0 (part 25 5 x) * 95353 + (joinedBytes 0 (part 30 5 x) * 111913 + 0))))))
-unfolding weightedFrom weights
-weights-are x = rw (drop-drop 5 5 x, drop-drop 5 10 x, drop-drop 5 15 x, drop-drop 5 20 x, drop-drop 5 25 x)
+-- nine words with their weights, as they are added
+pub nine-are : (x : List ℕ) (a b c d e f g h i : ℕ) → a ≡ wordAt 0 x → b ≡ wordAt 4 x → c ≡ wordAt 8 x → d ≡ wordAt 12 x
+    → e ≡ wordAt 16 x → f ≡ wordAt 20 x → g ≡ wordAt 24 x → h ≡ wordAt 28 x → i ≡ wordAt 31 x
+    → a * 48271 + b * 69621 + c * 16807 + (d * 39373 + e * 62089 + f * 95353) + (g * 111913 + h * 30323 + i * 84589) ≡ hashOf x
+unfolding hashOf
+nine-are x a b c d e f g h i p0 p1 p2 p3 p4 p5 p6 p7 p8 = rw (p0, p1, p2, p3, p4, p5, p6, p7, p8)
 
 pub square-small : (m : ℕ) → m < 2147483647 → m * m ≤ 2147483646 * m
 square-small m h = mul-le-mul-right m (omega arith)
@@ -76,22 +58,44 @@ module _ (t : ℕ) (xs : List ℕ) (i : ℕ) (e : firstOf t xs ≡ i + firstOf t
       unfolding firstOf
       first-next q = e ∙ rw (drop-cons xs i 0 l, isZero-not (getD xs i 0) n, ne-eqb (getD xs i 0) t q, add-one) (omega arith)
 
-first-fits : (t : ℕ) (xs : List ℕ) → firstOf t xs ≤ length xs
+-- among the first n entries: where it is one of them it is the first of all, else that comes behind them
+first-near : (t n : ℕ) (xs : List ℕ) → firstOf t (take n xs) < n → n ≤ length xs → firstOf t (take n xs) ≡ firstOf t xs
 unfolding firstOf
-first-fits t [] = omega arith
-first-fits t (x ∷ xs) =
+first-near t zero xs l h = absurd (omega arith)
+first-near t (suc n) [] l h = absurd (omega arith)
+first-near t (suc n) (x ∷ xs) l h =
     test (isZero x || eqb x t)
-    (λ q. rw q (omega arith))
-    (λ q. rw q (omega (arith, first-fits t xs)))
+    (λ q. rw q)
+    (λ q. rw q (ap suc (first-near t n xs (omega (arith, rw q at l)) (omega arith))))
 
--- s is the slot, f the first entry from there on, in the part of the index that is handed on
-module _ (h : ℕ) (index : List ℕ) (s t f : ℕ) (slot-is : s ≡ slotOf h) (tag-is : t ≡ tagOf h)
-    (first-is : f ≡ firstOf t (take (length index - (1 + s)) (drop (1 + s) index))) where
-  pub place-is : 1 + s + f ≡ placeFor h index
-  unfolding placeFor
-  place-is = rw (← slot-is, ← tag-is, first-is, part-drop index (1 + s))
+first-far : (t n : ℕ) (xs : List ℕ) → n ≤ firstOf t (take n xs) → n ≤ length xs → n ≤ firstOf t xs
+unfolding firstOf
+first-far t zero xs l h = omega arith
+first-far t (suc n) [] l h = absurd (omega arith)
+first-far t (suc n) (x ∷ xs) l h =
+    test (isZero x || eqb x t)
+    (λ q. absurd (omega (arith, rw q at l)))
+    (λ q. rw q (omega (arith, first-far t n xs (omega (arith, rw q at l)) (omega arith))))
 
-  pub place-inside : 1 + s ≤ length index → 1 + s + f ≤ length index
-  place-inside l =
-      let part = take (length index - (1 + s)) (drop (1 + s) index) in
-      omega (arith, first-is, first-fits t part, length-take (length index - (1 + s)) (drop (1 + s) index))
+-- s is the slot, f the first entry among 512 from there on, in the part of the index that is handed on
+module _ (h : ℕ) (index : List ℕ) (s t f : ℕ) (slot-is : s ≡ slotOf h) (tag-is : t ≡ tagOf h) (room : 513 + s ≤ length index)
+    (first-is : f ≡ firstOf t (take (1 + s + 512 - (1 + s)) (drop (1 + s) index))) where
+  steps : f ≡ firstOf t (take 512 (drop (1 + s) index))
+  steps = let n : 1 + s + 512 - (1 + s) ≡ 512 = omega arith in rw n at first-is
+
+  long : 512 ≤ length (drop (1 + s) index)
+  long = rw length-drop (omega arith)
+
+  pub place-near : f < 512 → 1 + s + f ≡ nearFor h index
+  unfolding nearFor placeFor
+  place-near l =
+      let is : f ≡ firstOf (tagOf h) (drop (1 + slotOf h) index) =
+      rw (← slot-is, ← tag-is) (steps ∙ first-near t 512 (drop (1 + s) index) (rw (← steps) l) long) in
+      rw (← is, ← slot-is, lt-ltb (1 + s + f) (513 + s) (omega arith))
+
+  pub place-far : 512 ≤ f → length index ≡ nearFor h index
+  unfolding nearFor placeFor
+  place-far l =
+      let far : 512 ≤ firstOf (tagOf h) (drop (1 + slotOf h) index) =
+      rw (← slot-is, ← tag-is) (first-far t 512 (drop (1 + s) index) (rw (← steps) l) long) in
+      rw (le-ltb (1 + slotOf h + firstOf (tagOf h) (drop (1 + slotOf h) index)) (513 + slotOf h) (omega arith))

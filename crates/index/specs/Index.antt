@@ -5,28 +5,24 @@ use Prim.Native.Nat.{ℕ, suc, _+_, _*_, _%_}
 use mathlib.Core.Bool.{Bool, true, false, cond, _||_}
 use mathlib.Core.Path.{_≡_}
 use mathlib.Core.List.{List, [], _∷_}
-use lib.Dec.{eqb}
+use lib.Dec.{eqb, ltb}
 use lib.ListN.{length, drop}
 use Rattle.metafile.specs.Bytes.{part, isZero}
 use Rattle.metafile.specs.Fields.{known}
+use Rattle.sums.specs.Lanes.{halfOf}
 
 -- ---- the hash
 
--- bytes as one number to the base 509, the first byte highest, behind another number
-unfoldable pub joinedBytes : ℕ → List ℕ → ℕ
-joinedBytes n [] = n
-joinedBytes n (x ∷ xs) = joinedBytes (n * 509 + x) xs
+-- four bytes as a number, the first lowest
+unfoldable pub wordAt : ℕ → List ℕ → ℕ
+wordAt k x = halfOf (part k 4 x)
 
--- five bytes for each weight
-unfoldable pub weightedFrom : List ℕ → List ℕ → ℕ
-weightedFrom [] x = 0
-weightedFrom (w ∷ ws) x = joinedBytes 0 (part 0 5 x) * w + weightedFrom ws (drop 5 x)
-
-unfoldable pub weights : List ℕ
-weights = 48271 ∷ 69621 ∷ 16807 ∷ 39373 ∷ 62089 ∷ 95353 ∷ 111913 ∷ []
-
+-- four bytes for each weight; the last four begin in those before them
 unfoldable pub hashOf : List ℕ → ℕ
-hashOf x = weightedFrom weights x
+hashOf x =
+    wordAt 0 x * 48271 + wordAt 4 x * 69621 + wordAt 8 x * 16807
+    + (wordAt 12 x * 39373 + wordAt 16 x * 62089 + wordAt 20 x * 95353)
+    + (wordAt 24 x * 111913 + wordAt 28 x * 30323 + wordAt 31 x * 84589)
 
 -- ---- the slots
 
@@ -44,13 +40,18 @@ unfoldable pub firstOf : ℕ → List ℕ → ℕ
 firstOf t [] = 0
 firstOf t (x ∷ xs) = cond (isZero x || eqb x t) 0 (suc (firstOf t xs))
 
--- the count, 196613 slots, and 4091 behind them for a search that begins at one of the last
+-- the count, 196613 slots, and more behind them: for a search that begins at one of the last, and for what else the array is
+-- lent
 unfoldable pub size : ℕ
-size = 200705
+size = 197126
 
 -- the place of h: the first entry of the index, from its slot on, that is empty or its tag
 unfoldable pub placeFor : ℕ → List ℕ → ℕ
 placeFor h index = 1 + slotOf h + firstOf (tagOf h) (drop (1 + slotOf h) index)
+
+-- that place where it is one of the first 512 from its slot on, else the end
+unfoldable pub nearFor : ℕ → List ℕ → ℕ
+nearFor h index = cond (ltb (placeFor h index) (513 + slotOf h)) (placeFor h index) (length index)
 
 -- ---- what the index holds
 

@@ -3,33 +3,30 @@
 // of its serial number on. Where an empty slot comes before the tag, no serial number met has this slot and tag, so the
 // serial number is new; where the tag stands, nothing is said of it, as two serial numbers may share both. Slot and tag are
 // made of one hash. The contracts cite specs/Index; the laws of the index are in proofs/Laws. None of it is a public call.
-ghost use mathlib.Core.List.{[], _∷_};
 ghost use mathlib.Core.Path.{_≡_};
-ghost use Prim.Native.Nat.{_<_, _^_};
+ghost use Prim.Native.Nat.{_+_, _≤_, _<_};
 ghost use lib.ListN.{length};
-ghost use Rattle.index.specs.Index.{joinedBytes, hashOf, tagOf, slotOf, firstOf, size, placeFor};
+ghost use Rattle.index.specs.Index.{wordAt, hashOf, tagOf, slotOf, firstOf, size, nearFor};
 
-// Five bytes as one number to the base 509.
-fn joined(a: u8, b: u8, c: u8, d: u8, e: u8) -> u64
-    ensures { λ r. ⌜ (r ≡ joinedBytes 0 (a ∷ b ∷ c ∷ d ∷ e ∷ [])) × (r < 2 ^ 44) ⌝ }
+// Four bytes as a number, the first lowest.
+fn word(s: &[u8], at: usize) -> u64
+    requires { ⌜ at + 4 ≤ length (now s) ⌝ }
+    ensures { λ r. ⌜ (r ≡ wordAt at (now (s .entry))) × (r < 4294967296) ⌝ }
 {
-    let ab = a as u64 * 509 + b as u64;
-    let cd = (ab * 509 + c as u64) * 509 + d as u64;
-    cd * 509 + e as u64
+    let end = at + 4;
+    sums::half_word(&s[at..end])
 }
 
-// The hash of a serial number: its first 35 bytes, five at a time, each five with its weight. There is no loop: so the
-// products don't wait for each other.
-pub fn hash(s: [u8; 38]) -> u64
-    ensures { λ r. ⌜ r ≡ hashOf s ⌝ }
+// The hash of a serial number: its first 35 bytes, four at a time, each four with its weight; the last four begin in those
+// before. There is no loop: so the products don't wait for each other.
+pub fn hash(s: &[u8]) -> u64
+    requires { ⌜ 38 ≤ length (now s) ⌝ }
+    ensures { λ r. ⌜ r ≡ hashOf (now (s .entry)) ⌝ }
 {
-    let first = joined(s[0], s[1], s[2], s[3], s[4]) * 48271
-        + joined(s[5], s[6], s[7], s[8], s[9]) * 69621;
-    let second = joined(s[10], s[11], s[12], s[13], s[14]) * 16807
-        + joined(s[15], s[16], s[17], s[18], s[19]) * 39373;
-    let third = joined(s[20], s[21], s[22], s[23], s[24]) * 62089
-        + joined(s[25], s[26], s[27], s[28], s[29]) * 95353;
-    first + second + third + joined(s[30], s[31], s[32], s[33], s[34]) * 111913
+    let first = word(s, 0) * 48271 + word(s, 4) * 69621 + word(s, 8) * 16807;
+    let second = word(s, 12) * 39373 + word(s, 16) * 62089 + word(s, 20) * 95353;
+    let third = word(s, 24) * 111913 + word(s, 28) * 30323 + word(s, 31) * 84589;
+    first + second + third
 }
 
 // What stands in the index for a hash: a number below 2^32 that is never 0.
@@ -65,12 +62,17 @@ fn first(entries: &[u32], tag: u32) -> usize
     i
 }
 
-// The place of a hash in the index: the first slot, from its own on, that is empty or has its tag; the end where there is
-// none.
+// The place of a hash in the index: the first of 512 slots, from its own on, that is empty or has its tag; the end where none
+// of them is.
 pub fn place(index: &[u32], hash: u64) -> usize
     requires { ⌜ length (now index) ≡ size ⌝ }
-    ensures { λ r. ⌜ r ≡ placeFor hash (now (index .entry)) ⌝ }
+    ensures { λ r. ⌜ r ≡ nearFor hash (now (index .entry)) ⌝ }
 {
     let from = 1 + slot(hash);
-    from + first(&index[from..], tag(hash))
+    let end = from + 512;
+    let steps = first(&index[from..end], tag(hash));
+    if steps < 512 {
+        return from + steps;
+    }
+    index.len()
 }

@@ -2,9 +2,10 @@
 // not in include/ads.h. Each has the contract of the function that it is thin over.
 ghost use mathlib.Core.Path.{_≡_};
 ghost use mathlib.Core.Bool.{cond, _||_};
-ghost use lib.Dec.{eqb, ltb};
+ghost use lib.Dec.{eqb, leb, ltb};
 ghost use lib.ListN.{length};
 ghost use Rattle.metafile.specs.Bytes.{find, sum};
+ghost use Rattle.index.specs.Index.{hashOf};
 ghost use Rattle.search.specs.Shifts.{tries};
 use search::Found;
 
@@ -45,4 +46,15 @@ pub extern "C" fn kernel_find(mark: &[u8], s: &[u8]) -> Found
         };
     }
     search::sought(mark, s)
+}
+
+// The hash by which the index finds a serial number; 0 where there are fewer than its 38 bytes.
+#[no_mangle]
+pub extern "C" fn kernel_hash(s: &[u8]) -> u64
+    ensures { λ r. ⌜ r ≡ cond (leb 38 (length (now (s .entry)))) (hashOf (now (s .entry))) 0 ⌝ }
+{
+    if 38 <= s.len() {
+        return index::hash(s);
+    }
+    0
 }

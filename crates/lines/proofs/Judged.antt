@@ -1,5 +1,6 @@
 -- What the judging functions need of the definitions, each answer as a lemma on lists.
 --     judged-short judged     a field that is too short; a field that has its bytes, as the code takes them
+--     three-same              three bytes compared as one number
 --     same-word               the constant list of the code
 --     word-one word-two either-own   one of the words listed
 --     stamp-.. strategy-..    a word and the field behind it
@@ -14,7 +15,7 @@ use native.Mathlib.Omega.{arith}
 use lib.Dec.{leb, eqb}
 use lib.ListN.{length, take, drop, length-drop}
 use lib.Seq.{drop-drop, take-take, length-take-le}
-use borrow.Author.Tests.{eqb-true, eqb-false, leb-true, le-leb}
+use borrow.Author.Tests.{eqb-true, eqb-false, eq-eqb, ne-eqb, leb-true, le-leb}
 use Rattle.metafile.specs.Fields.{isDigit, numberFrom, number, isSpace, dropWhile, isCount, countValue}
 use Rattle.metafile.specs.Bytes.{bytes, part, all, _⊳_, require, same, member}
 use Rattle.metafile.specs.Lines.{LLC, NUL, strategy, stamp, fieldFault, countFault, serialFault, wordFault, stampFault, freeFault, kindFault}
@@ -27,7 +28,7 @@ use Rattle.laws.proofs.First.{test, and-both, or-left, or-right, ⊳-stop, ⊳-
 use Rattle.laws.proofs.Lists.{same-eq}
 use Rattle.laws.proofs.Table.{field-short, field-long, field-enough}
 use Rattle.fields.proofs.Prefix.{rest-le}
-use Rattle.lines.specs.Words.{wordNo}
+use Rattle.lines.specs.Words.{wordNo, Three}
 
 -- ---- numbers in n digits
 
@@ -96,6 +97,33 @@ below-at p (suc n) i e h =
     (λ q. let m = eqb-false i n q in below-at p n i (k .1) (omega arith))
 
 -- ---- the listed words
+
+three-equal : (a b c x y z : ℕ) → a < 256 → b < 256 → c < 256 → x < 256 → y < 256 → z < 256
+    → eqb (a + b * 256 + c * 65536) (x + y * 256 + z * 65536) ≡ (eqb a x && (eqb b y && (eqb c z && true)))
+three-equal a b c x y z ha hb hc hx hy hz =
+    let m = a + b * 256 + c * 65536 in
+    let n = x + y * 256 + z * 65536 in
+    test (eqb a x)
+    (λ p. test (eqb b y)
+    (λ q. test (eqb c z)
+    (λ r. rw (p, q, r) (eq-eqb m n (omega (arith, eqb-true a x p, eqb-true b y q, eqb-true c z r))))
+    (λ r. rw (p, q, r) (ne-eqb m n (λ e. eqb-false c z r (omega (arith, e))))))
+    (λ q. rw (p, q) (ne-eqb m n (λ e. eqb-false b y q (omega (arith, e))))))
+    (λ p. rw p (ne-eqb m n (λ e. eqb-false a x p (omega (arith, e)))))
+
+-- three bytes compared as one number
+pub three-same : (s t : List ℕ) → length s ≡ 3 → length t ≡ 3 → (x y : ℕ) → Three s x → Three t y → eqb x y ≡ same s t
+unfolding same
+three-same (a ∷ b ∷ c ∷ []) (d ∷ e ∷ f ∷ []) l m x y p q =
+    rw (p .number, q .number) (three-equal a b c d e f (p .first) (p .second) (p .third) (q .first) (q .second) (q .third))
+three-same [] t l m x y p q = absurd (omega arith)
+three-same (a ∷ []) t l m x y p q = absurd (omega arith)
+three-same (a ∷ b ∷ []) t l m x y p q = absurd (omega arith)
+three-same (a ∷ b ∷ c ∷ d ∷ s) t l m x y p q = absurd (omega arith)
+three-same (a ∷ b ∷ c ∷ []) [] l m x y p q = absurd (omega arith)
+three-same (a ∷ b ∷ c ∷ []) (d ∷ []) l m x y p q = absurd (omega arith)
+three-same (a ∷ b ∷ c ∷ []) (d ∷ e ∷ []) l m x y p q = absurd (omega arith)
+three-same (a ∷ b ∷ c ∷ []) (d ∷ e ∷ f ∷ g ∷ t) l m x y p q = absurd (omega arith)
 
 -- all words in a row, as the code has them
 abbrev pub allWords : List ℕ

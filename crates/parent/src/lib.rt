@@ -30,14 +30,25 @@ fn agree(file: &[u8], a: usize, b: usize) -> bool
     search::same_bytes(&file[a..a + places::NAME], &file[b..b + places::NAME])
 }
 
+// Rows that a reading passes one by one; to one behind them it may go at once.
+const PASSED: usize = 150000;
+
+// The row from which on the dependency is sought first: the one halfway, where a reading passes it.
+fn sought_from(row: usize) -> usize
+    ensures { λ r. ⌜ r ≤ row ⌝ }
+{
+    let half = row / 2;
+    if half < PASSED { half } else { PASSED }
+}
+
 // Tests 11, 13, 14.
 pub fn parent(file: &[u8], row: usize, dependency: usize) -> ParentAnswer
     ensures { λ r. ⌜ parentAnswer r ≡ parent (now (file .entry)) row dependency ⌝ }
 {
     let mut index = [0u32; walk::INDEX];
-    let half = row / 2;
-    let middle = walk::row_of(file, half, &mut index);
-    let own = walk::row_behind(file, half, middle, row, &mut index);
+    let from = sought_from(row);
+    let middle = walk::row_of(file, from, row, &mut index);
+    let own = walk::row_behind(file, from, middle, row, &mut index);
     if own.number != 0 {
         return ParentAnswer::Refused(own.number);
     }
@@ -46,7 +57,7 @@ pub fn parent(file: &[u8], row: usize, dependency: usize) -> ParentAnswer
     }
     let at = own.at + places::DEPENDENCIES + places::DEPENDENCY_BYTES * dependency;
     let serial = serial_at(file, at + places::DEPENDENCY_SERIAL);
-    let found = walk::row_with(file, own, half, middle.at, serial, &mut index);
+    let found = walk::row_with(file, own, from, middle.at, serial, &mut index);
     if !found.there {
         return ParentAnswer::Missing;
     }

@@ -69,7 +69,7 @@ pub fn first(file: &[u8], room: usize, index: &mut [u32]) -> State
     if LIMIT < file.len() {
         return halted(walk::none(refusals::OVER_LIMIT), refusals::OVER_LIMIT);
     }
-    state_of(file, room, walk::first(file, index))
+    state_of(file, room, walk::first(file, room, index))
 }
 
 // The state after the row of s is written.
@@ -79,7 +79,7 @@ pub fn next(file: &[u8], room: usize, s: State, index: &mut [u32]) -> State
     ensures { λ r. ⌜ (r ≡ stateAt (now (file .entry)) room (s .n + 1)) × Indexed (now (file .entry)) (s .n + 2) (now (index .exit)) ⌝ }
 {
     let cursor = s.cursor;
-    state_of(file, room, walk::next(file, cursor, index))
+    state_of(file, room, walk::next(file, cursor, room, index))
 }
 
 pub fn last(s: State) -> ReadAnswer

@@ -8,6 +8,7 @@ ghost use Rattle.metafile.specs.Bytes.{sum};
 
 mod words;
 
+pub use words::half_word;
 pub use words::sums_agree;
 pub use words::word_sum;
 

@@ -16,7 +16,7 @@ fn wide(x: u8) -> u64
 }
 
 // Four bytes as a number. Two of these make a word: the compiler then loads each word at once.
-fn half_word(b: &[u8]) -> u64
+pub fn half_word(b: &[u8]) -> u64
     requires { ⌜ length (now b) ≡ 4 ⌝ }
     ensures { λ r. ⌜ (r ≡ halfOf (now (b .entry))) × (r < 4294967296) ⌝ }
 {

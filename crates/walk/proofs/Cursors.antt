@@ -2,13 +2,12 @@
 --     cursor-behind cursor-none first-behind   the cursor made behind n rows, and where the file header isn't whole
 --     There goes-.. there         a cursor that goes stands at a row of the reading: its place, its chunk
 --     Stops cursor-stopped stops   one that stops stands behind the last row, at the reading's stop, with the reading's number
---     stands no-rows              the file header of a cursor is whole, or there is no row
---     onward                      where the reading stands behind the row of a cursor
+--     onward onto                 where the reading stands behind the row of a cursor, and before the last row that is counted
 -- Assumes nothing.
-use Prim.Native.Nat.{ℕ, _+_, _≤_, _<_}
+use Prim.Native.Nat.{ℕ, _+_, _-_, _≤_, _<_}
 use mathlib.Core.Bool.{true, false}
-use mathlib.Core.Path.{_≡_, refl, sym, ap, _∙_}
-use mathlib.Core.List.{List, []}
+use mathlib.Core.Path.{_≡_, sym, ap, _∙_}
+use mathlib.Core.List.{List}
 use native.Mathlib.Omega.{arith}
 use lib.Dec.{ltb}
 use lib.ListN.{length}
@@ -21,7 +20,7 @@ use Rattle.walk.specs.declared.answers.Header.{Header}
 use Rattle.walk.specs.declared.answers.Step.{Step}
 use Rattle.walk.specs.declared.cursor.Cursor.{Cursor}
 use Rattle.walk.specs.Walk.{headerOf, placeAfter, chunkAt, stopWith, stepOf}
-use Rattle.walk.specs.Index.{Indexed}
+use Rattle.walk.specs.Index.{countOf, lastOf, Indexed}
 use Rattle.walk.specs.Cursor.{Behind, cursorOf, cursorNone, numbered, cursorUnbegun, cursorAt, At}
 use Rattle.walk.proofs.Stages.{header-number, header-is}
 use Rattle.walk.proofs.Steps.{place-none, stop-is}
@@ -156,17 +155,20 @@ module _ {file : List ℕ} {c : Cursor} {index : List ℕ} (w : At file c index)
   pub there : c .go ≡ true → There file c
   there = goes-there file c (c .row) (w .is)
 
-  -- the file header is whole, or isn't
-  pub stands : c .header .number ≡ 0 → Behind file (c .header) (c .row) (c .at)
-  unfolding cursorUnbegun cursorNone
-  stands z =
-      header-cases file (λ e. begun-behind file c (c .row) (w .is) e (w .few) .1)
-      (λ e. absurd (e (sym (ap (λ (x : Cursor). x .header .number) (unbegun-is file c (c .row) (w .is) e)) ∙ z)))
-
-  pub no-rows : (c .header .number ≡ 0 → ⊥) → rowsOf file ≡ []
-  no-rows z = header-cases file (λ e. absurd (z (begun-behind file c (c .row) (w .is) e (w .few) .1 .whole))) (rows-unbegun file)
-
 -- behind the row of a cursor
 pub onward : {file : List ℕ} {c : Cursor} → There file c → Behind file (c .header) (c .row + 1) (c .at + c .layout .end)
 onward w =
     record { header-is = w .behind .header-is; whole = w .behind .whole; few = omega (arith, w .turn .row); place-is = w .turn .place }
+
+-- before row k, the last that is counted, from a cursor at an earlier one
+pub onto : {file : List ℕ} {c : Cursor} {index : List ℕ} → At file c index → c .go ≡ true → (k : ℕ) → c .row < k → countOf index ≡ k + 1
+    → Behind file (c .header) k (lastOf index)
+onto {file} {c} {index} w g k h n =
+    let t = there w g in
+    let last : countOf index - 1 ≡ k = omega arith in
+    record {
+      header-is = t .behind .header-is;
+      whole = t .behind .whole;
+      few = omega (arith, w .indexed .there);
+      place-is = w .indexed .begins (omega arith) ∙ ap (placeAfter file) last;
+    }

@@ -4,6 +4,7 @@
 --     Steps     the steps of a reading: places, rows, where it stops, a reading into n rows
 --     Index     the index of serial numbers
 --     Loops     what the functions over the steps need
+--     Ahead     the rows known to be there, by the chunks ahead
 --     Cursors   the cursor over the rows
 --     Named     the row of a number
 --     Notes     the values of the rows named, in a survey
@@ -12,6 +13,7 @@ pub mod Serials
 pub mod Steps
 pub mod Index
 pub mod Loops
+pub mod Ahead
 pub mod Cursors
 pub mod Named
 pub mod Notes

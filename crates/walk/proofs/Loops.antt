@@ -2,11 +2,11 @@
 --     given-..          the chunk and its serial number, from the parts of the file that are handed on
 --     turn              from one row to the next
 --     step-..           the answers of a step
---     seen-passed with-there row-only row-other   the serial number of the chunk of a row, compared
+--     seen-passed seen-more with-there row-only row-other   the serial number of the chunk of a row, compared
 --     numbered-.. between-.. late-there early-there   the answers on a serial number
 -- Assumes nothing.
 use Prim.Native.Nat.{ℕ, suc, _+_, _-_, _≤_, _<_}
-use mathlib.Core.Bool.{Bool, true, false, not, _&&_}
+use mathlib.Core.Bool.{Bool, true, false, not, _&&_, _||_}
 use mathlib.Core.Path.{_≡_, refl, sym, ap, _∙_}
 use mathlib.Core.List.{List, []}
 use native.Mathlib.Omega.{arith}
@@ -19,7 +19,7 @@ use Rattle.metafile.specs.Bytes.{_⊳_, require, isEmpty}
 use Rattle.metafile.specs.Fields.{sameSerial, known}
 use Rattle.metafile.specs.Header.{isLLC, markLength, markOf, headerFault}
 use Rattle.metafile.specs.Chunk.{chunkFault, chunkEnd, serialOf}
-use Rattle.metafile.specs.Reading.{nextFault, reading, rowsOf, serialsOf}
+use Rattle.metafile.specs.Reading.{nextFault, rowsOf, serialsOf}
 use Rattle.metafile.specs.Append.{rowNo}
 use Rattle.metafile.specs.Calls.{rowWith}
 use Rattle.laws.proofs.First.{test, cases, untrue, and-both, ⊳-stop, ⊳-go, require-met, require-unmet, choose-go, choose-stop}
@@ -37,14 +37,14 @@ use Rattle.walk.proofs.Serials.{known-past, known-more, with-here, with
 
 -- ---- the chunk at a place
 
-layout-number : (llc : Bool) (m s : List ℕ) → layoutOf llc m s .number ≡ chunkFault llc m s
+pub layout-number : (llc : Bool) (m s : List ℕ) → layoutOf llc m s .number ≡ chunkFault llc m s
 unfolding layoutOf partsOf faulty
 layout-number llc m s =
     cases (chunkFault llc m s)
     (λ z. rw z (ap (λ (l : Layout). l .number) (choose-go 0 (partsOf m s) faulty refl)))
     (λ k z. rw z (ap (λ (l : Layout). l .number) (choose-stop (suc k) (partsOf m s) faulty (λ q. omega arith))))
 
-layout-end : (llc : Bool) (m s : List ℕ) → chunkFault llc m s ≡ 0 → layoutOf llc m s .end ≡ chunkEnd m s
+pub layout-end : (llc : Bool) (m s : List ℕ) → chunkFault llc m s ≡ 0 → layoutOf llc m s .end ≡ chunkEnd m s
 unfolding layoutOf partsOf
 layout-end llc m s z = ap (λ (l : Layout). l .end) (choose-go (chunkFault llc m s) (partsOf m s) faulty z)
 
@@ -125,6 +125,12 @@ module _ (file : List ℕ) (e : headerFault file ≡ 0) where
   unfolding faultAfter nextFault restAfter serialsPast
   fault-is i = rw (known-past (serialOf (markOf file) (drop (placeAfter file i) file)) (take i (rowsOf file)))
 
+  -- row i is there
+  pub step-row : (i at : ℕ) → i < length (rowsOf file) → at ≡ placeAfter file i → (l : Layout) → l ≡ chunkAt file at
+      → record { go = true; number = 0; layout = l } ≡ stepOf file i
+  unfolding stepOf
+  step-row i at h p l is = rw (lt-ltb i (length (rowsOf file)) h, is, p)
+
   module _ (i at : ℕ) (h : i ≤ length (rowsOf file)) (p : at ≡ placeAfter file i) where
     ended : restAfter file i ≡ [] → at ≡ length file
     unfolding restAfter
@@ -185,8 +191,7 @@ module _ (file : List ℕ) (e : headerFault file ≡ 0) where
           step-turn y = turn i at l (go-with (no-fault y)) p is
 
           pub step-new : b ≡ false → record { go = true; number = 0; layout = l } ≡ stepOf file i
-          unfolding stepOf
-          step-new y = rw (lt-ltb i (length (rowsOf file)) (go-with (no-fault y)), is, p)
+          step-new y = step-row i at (go-with (no-fault y)) p l is
 
 -- ---- the serial number of the chunk of row j
 
@@ -197,6 +202,9 @@ module _ (x file : List ℕ) (e : headerFault file ≡ 0) (j at : ℕ) (h : j < 
 
   pub seen-passed : known x (serialsOf (take j (rowsOf file))) ≡ false → b ≡ false → known x (serialsOf (take (j + 1) (rowsOf file))) ≡ false
   seen-passed k y = rw add-one (known-more x (rowsOf file) j h ∙ rw (k, sym same-row, y))
+
+  pub seen-more : (k : Bool) → k ≡ known x (serialsOf (take j (rowsOf file))) → (k || b) ≡ known x (serialsOf (take (j + 1) (rowsOf file)))
+  seen-more k e = rw add-one (sym (known-more x (rowsOf file) j h ∙ rw (← e, ← same-row)))
 
   with-there : known x (serialsOf (take j (rowsOf file))) ≡ false → b ≡ true → j ≡ rowWith x (rowsOf file)
   with-there k y = with-here x (rowsOf file) j h k (sym same-row ∙ y)

@@ -1,11 +1,11 @@
 -- The values of the rows named, noted row by row (specs/Survey).
 --     note-..     one turn of the loop over the values, and its end
 --     values-..   the values of the rows below i: none, how many, one row more
---     known-..    a serial number in no row, and in any of all rows
+--     known-everywhere   a serial number in all rows
 --     survey-..   a row passed, and the survey where a cursor stops
 -- Assumes nothing.
 use Prim.Native.Nat.{ℕ, zero, suc, _+_, _≤_, _<_}
-use mathlib.Core.Bool.{Bool, false, cond}
+use mathlib.Core.Bool.{Bool, cond}
 use mathlib.Core.Path.{_≡_, refl, sym, ap, _∙_}
 use mathlib.Core.List.{List, [], _∷_, _++_, append-assoc}
 use native.Mathlib.Omega.{arith}
@@ -147,10 +147,6 @@ pub survey-stopped : {file : List ℕ} {c : Cursor} → Stops file c → (x ks :
 unfolding surveyOf
 survey-stopped w x ks b places ends k ps es = rw (w .count, w .stop, w .number-is, w .good-is, k, ps, es)
 
--- a serial number, in no row and in any
-pub known-nowhere : (x : List ℕ) {rows : List Row} → rows ≡ [] → false ≡ known x (serialsOf rows)
-unfolding known serialsOf
-known-nowhere x e = rw e
-
+-- a serial number in all rows
 pub known-everywhere : (x : List ℕ) (rows : List Row) (n : ℕ) → length rows ≡ n → known x (serialsOf (take n rows)) ≡ known x (serialsOf rows)
 known-everywhere x rows n e = rw (take-all n rows (omega arith))

@@ -1,6 +1,6 @@
 -- What the functions of this crate answer, by the definitions of the crate metafile: the file header, one step of the
 -- reading ("Reading"), and a row by its serial number. Assumes nothing.
-use Prim.Native.Nat.{ℕ, zero, suc}
+use Prim.Native.Nat.{ℕ, zero, suc, _+_}
 use mathlib.Core.Bool.{true, false, cond, _&&_}
 use mathlib.Core.List.{List}
 use lib.Dec.{leb, ltb}
@@ -8,6 +8,7 @@ use lib.ListN.{length, drop}
 use Rattle.metafile.specs.declared.Row.{Row}
 use Rattle.metafile.specs.Bytes.{choose}
 use Rattle.metafile.specs.Header.{isLLC, markLength, markOf, headerFault, headerEnd, headerGood}
+use Rattle.metafile.specs.Chunk.{closingPlace}
 use Rattle.metafile.specs.Reading.{reading, rowsOf}
 use Rattle.metafile.specs.Append.{rowNo}
 use Rattle.metafile.specs.Calls.{rowWith}
@@ -33,10 +34,15 @@ placeBehind p rows (suc i) = rowNo rows i .end
 unfoldable pub placeAfter : List ℕ → ℕ → ℕ
 placeAfter file i = placeBehind (headerEnd file) (rowsOf file) i
 
--- the chunk of a row, and none
+-- the chunk at a place
 unfoldable pub chunkAt : List ℕ → ℕ → Layout
 chunkAt file p = layoutOf (isLLC file) (markOf file) (drop p file)
 
+-- where the serial number of the chunk at p stands
+unfoldable pub serialAt : List ℕ → ℕ → ℕ
+serialAt file p = p + (closingPlace (markOf file) (drop p file) + length (markOf file) + 20)
+
+-- no chunk
 unfoldable pub noLayout : Layout
 noLayout =
     record { number = 0; header = 0; contents = 0; bytes = 0; end = 0; dependencies = 0; multichunk = false }

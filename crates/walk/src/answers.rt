@@ -19,6 +19,13 @@ pub struct Step {
     pub layout: Layout,
 }
 
+// Rows that are known to be there.
+pub struct Ahead {
+    pub rows: usize,
+    // where the last of them begins; 0 where there is none
+    pub last: usize,
+}
+
 // A row by its serial number; what row and place are where there is none, each function says.
 pub struct Numbered {
     pub there: bool,

@@ -1,17 +1,21 @@
 // A cursor over the rows of a file: it stands at a row, or where the reading stops, and is handed on by value. A loop over
-// the rows is `let mut c = first(file, index); while c.go { .. c = next(file, c, index); }`, and its invariant is one record,
-// At of specs/Cursor; what a cursor says of the reading is in proofs/Cursors.
+// the rows is `let mut c = first(file, k, index); while c.go { .. c = next(file, c, k, index); }`, where row k is the last that
+// is asked for, and its invariant is one record, At of specs/Cursor; what a cursor says of the reading is in proofs/Cursors.
 ghost use mathlib.Core.Bool.{true};
 ghost use mathlib.Core.Path.{_≡_};
-ghost use Prim.Native.Nat.{_+_};
+ghost use Prim.Native.Nat.{_+_, _≤_, _<_};
 ghost use Rattle.walk.specs.Index.{Indexed};
 ghost use Rattle.walk.specs.Cursor.{cursorNone, Behind, At};
 use crate::answers::Header;
+use crate::earlier::LAST_AT;
 use crate::headers::header;
 use crate::headers::unbegun;
 use crate::rows::no_layout;
 use crate::rows::step;
 use chunk::Layout;
+
+// Where all rows may be asked for: behind every row.
+pub const ALL: usize = 18446744073709551615;
 
 pub struct Cursor {
     // the cursor stands at a row; else the reading stops with the number
@@ -49,12 +53,19 @@ pub fn none(number: u8) -> Cursor
 }
 
 // Behind n rows, the last of which ends at the place `at`.
-fn behind(file: &[u8], header: Header, n: usize, at: usize, index: &mut [u32]) -> Cursor
+fn behind(
+    file: &[u8],
+    header: Header,
+    n: usize,
+    at: usize,
+    until: usize,
+    index: &mut [u32],
+) -> Cursor
     requires { ⌜ Behind (now file) header n at ⌝ }
     requires { ⌜ Indexed (now file) n (now index) ⌝ }
     ensures { λ r. ⌜ At (now (file .entry)) r (now (index .exit)) × (r .row ≡ n) ⌝ }
 {
-    let s = step(file, header, at, n, index);
+    let s = step(file, header, at, n, until, index);
     let layout = s.layout;
     Cursor {
         go: s.go,
@@ -67,7 +78,7 @@ fn behind(file: &[u8], header: Header, n: usize, at: usize, index: &mut [u32]) -
 }
 
 // At the first row. The index is empty; the serial number of the row at which a cursor stands is entered.
-pub fn first(file: &[u8], index: &mut [u32]) -> Cursor
+pub fn first(file: &[u8], until: usize, index: &mut [u32]) -> Cursor
     requires { ⌜ Indexed (now file) 0 (now index) ⌝ }
     ensures { λ r. ⌜ At (now (file .entry)) r (now (index .exit)) × (r .row ≡ 0) ⌝ }
 {
@@ -77,15 +88,33 @@ pub fn first(file: &[u8], index: &mut [u32]) -> Cursor
         c.number = unbegun(file.len(), h.number);
         return c;
     }
-    behind(file, h, 0, h.end, index)
+    behind(file, h, 0, h.end, until, index)
 }
 
 // At the next row.
-pub fn next(file: &[u8], c: Cursor, index: &mut [u32]) -> Cursor
+pub fn next(file: &[u8], c: Cursor, until: usize, index: &mut [u32]) -> Cursor
     requires { ⌜ At (now file) c (now index) ⌝ }
     requires { ⌜ c .go ≡ true ⌝ }
     ensures { λ r. ⌜ At (now (file .entry)) r (now (index .exit)) × (r .row ≡ c .row + 1) ⌝ }
 {
     let h = c.header;
-    behind(file, h, c.row + 1, c.at + c.layout.end, index)
+    behind(file, h, c.row + 1, c.at + c.layout.end, until, index)
+}
+
+// At row k, which is behind that of the cursor, where a look ahead ended with it; else at the next row.
+pub fn toward(file: &[u8], c: Cursor, k: usize, until: usize, index: &mut [u32]) -> Cursor
+    requires { ⌜ At (now file) c (now index) ⌝ }
+    requires { ⌜ c .go ≡ true ⌝ }
+    requires { ⌜ c .row < k ⌝ }
+    ensures { λ r. ⌜ At (now (file .entry)) r (now (index .exit)) × (c .row < r .row) × (r .row ≤ k) ⌝ }
+{
+    let n = index[0] as usize;
+    if k < n {
+        if n - k == 1 {
+            let h = c.header;
+            let at = index[LAST_AT] as usize;
+            return behind(file, h, k, at, until, index);
+        }
+    }
+    next(file, c, until, index)
 }

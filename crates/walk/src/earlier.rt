@@ -1,25 +1,36 @@
-// Serial numbers of the rows behind which a reading stands: new by the index, or looked up in the rows' own chunks.
+// Serial numbers of the rows behind which a reading stands: new by the index or by a look ahead, or looked up in the rows' own
+// chunks.
 ghost use mathlib.Core.Path.{_≡_};
-ghost use Prim.Native.Nat.{_≤_};
+ghost use Prim.Native.Nat.{_+_, _≤_};
 ghost use lib.ListN.{length, take, replicate};
+ghost use Rattle.metafile.specs.Bytes.{part};
 ghost use Rattle.metafile.specs.Fields.{known};
 ghost use Rattle.metafile.specs.Reading.{rowsOf, serialsOf};
-ghost use Rattle.walk.specs.Walk.{headerOf, placeAfter, betweenOf};
-ghost use Rattle.walk.specs.Index.{Indexed, enteredFor};
+ghost use Rattle.index.specs.Index.{size};
+ghost use Rattle.walk.specs.Walk.{headerOf, placeAfter, serialAt, betweenOf};
+ghost use Rattle.walk.specs.Index.{Indexed, Entered};
 use crate::answers::Header;
 use crate::answers::Numbered;
+use crate::lookahead::rows_ahead;
 use crate::rows::known_chunk;
 use crate::rows::serial_at;
+use table::places::SERIAL;
 
 // The largest count that an entry holds.
 const LAST: usize = 4294967295;
 
 // Entries of an index.
-pub const INDEX: usize = 200705;
+pub const INDEX: usize = 197126;
+
+// The entry that isn't 0 where the index is left.
+const LEFT: usize = 197125;
+
+// The entry that says then where the last row counted begins.
+pub const LAST_AT: usize = 1;
 
 // An index in which nothing is entered.
 pub fn empty_index() -> [u32; INDEX]
-    ensures { λ r. ⌜ r ≡ replicate 200705 0 ⌝ }
+    ensures { λ r. ⌜ r ≡ replicate 197126 0 ⌝ }
 {
     [0; INDEX]
 }
@@ -72,48 +83,74 @@ fn rescanned(file: &[u8], h: Header, i: usize, serial: [u8; 38]) -> bool
     row_between(file, h, 0, h.end, i, serial).there
 }
 
-// Whether a serial number is in one of the first i rows: by the index where all i are entered in it and the place of its
-// hash is empty, else their chunks are read again.
-pub fn seen(file: &[u8], h: Header, i: usize, index: &[u32], serial: [u8; 38]) -> bool
+// The same without the index, which is left for a look at the chunks ahead, up to row `until`.
+fn leave(
+    file: &[u8],
+    h: Header,
+    at: usize,
+    i: usize,
+    until: usize,
+    index: &mut [u32],
+    place: usize,
+) -> bool
     requires { ⌜ h ≡ headerOf (now file) ⌝ }
     requires { ⌜ h .number ≡ 0 ⌝ }
     requires { ⌜ i ≤ length (rowsOf (now file)) ⌝ }
-    requires { ⌜ Indexed (now file) i (now index) ⌝ }
-    ensures { λ r. ⌜ r ≡ known serial (serialsOf (take i (rowsOf (now (file .entry))))) ⌝ }
+    requires { ⌜ at ≡ placeAfter (now file) i ⌝ }
+    requires { ⌜ place ≡ serialAt (now file) at ⌝ }
+    requires { ⌜ place + 38 ≤ length (now file) ⌝ }
+    requires { ⌜ length (now index) ≡ size ⌝ }
+    ensures { λ r. ⌜ (r ≡ known (part place 38 (now (file .entry))) (serialsOf (take i (rowsOf (now (file .entry)))))) × Indexed (now (file .entry)) (i + 1) (now (index .exit)) ⌝ }
 {
-    if index[0] as usize == i {
-        let at = index::place(index, index::hash(serial));
-        if at < index.len() {
-            if index[at] == 0 {
-                return false;
-            }
-        }
+    let ahead = rows_ahead(file, h, i, at, until, index);
+    index[0] = ahead.rows as u32;
+    index[LAST_AT] = ahead.last as u32;
+    index[LEFT] = 1;
+    if i < ahead.rows {
+        return false;
     }
-    rescanned(file, h, i, serial)
+    rescanned(file, h, i, fields::serial_from(&file[place..]))
 }
 
-// The same, and a serial number that is not is entered as that of row i, where all rows before it are entered and there is
-// room. Its tag may stand there already, by another row: then there is nothing to enter but the count.
-pub fn met(file: &[u8], h: Header, i: usize, index: &mut [u32], serial: [u8; 38]) -> bool
+// Whether the serial number at `place`, that of the whole chunk at `at`, is in one of the first i rows. By the index it is new
+// where all i are entered in it and the place of its hash is empty, and then it is entered as that of row i. Where its tag
+// stands, their chunks are read again; where that is another's, or there is no room, the index is left. From then on the chunks
+// ahead are looked at wherever no more rows are known to be there.
+pub fn met(
+    file: &[u8],
+    h: Header,
+    at: usize,
+    i: usize,
+    until: usize,
+    index: &mut [u32],
+    place: usize,
+) -> bool
     requires { ⌜ h ≡ headerOf (now file) ⌝ }
     requires { ⌜ h .number ≡ 0 ⌝ }
     requires { ⌜ i ≤ length (rowsOf (now file)) ⌝ }
+    requires { ⌜ at ≡ placeAfter (now file) i ⌝ }
+    requires { ⌜ place ≡ serialAt (now file) at ⌝ }
+    requires { ⌜ place + 38 ≤ length (now file) ⌝ }
     requires { ⌜ Indexed (now file) i (now index) ⌝ }
-    ensures { λ r. ⌜ (r ≡ known serial (serialsOf (take i (rowsOf (now (file .entry)))))) × (now (index .exit) ≡ enteredFor (now (file .entry)) i serial (now (index .entry))) ⌝ }
+    ensures { λ r. ⌜ (r ≡ known (part place 38 (now (file .entry))) (serialsOf (take i (rowsOf (now (file .entry)))))) × Entered (now (file .entry)) i (part place 38 (now (file .entry))) (now (index .exit)) ⌝ }
 {
+    if index[LEFT] != 0 {
+        return leave(file, h, at, i, until, index, place);
+    }
     if (index[0] as usize == i) & (i < LAST) {
-        let hash = index::hash(serial);
-        let at = index::place(index, hash);
-        if at < index.len() {
-            if index[at] != 0 {
-                if rescanned(file, h, i, serial) {
-                    return true;
-                }
+        let end = place + SERIAL;
+        let hash = index::hash(&file[place..end]);
+        let slot = index::place(index, hash);
+        if slot < index.len() {
+            if index[slot] == 0 {
+                index[slot] = index::tag(hash);
+                index[0] = (i + 1) as u32;
+                return false;
             }
-            index[at] = index::tag(hash);
-            index[0] = (i + 1) as u32;
-            return false;
+            if rescanned(file, h, i, fields::serial_from(&file[place..])) {
+                return true;
+            }
         }
     }
-    rescanned(file, h, i, serial)
+    leave(file, h, at, i, until, index, place)
 }

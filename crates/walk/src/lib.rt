@@ -1,14 +1,16 @@
 // The reading without a table, as the scope paper has it under "File header" and "Reading": the file header, a cursor over
 // the rows, the row of a number, and whether a serial number is already in a row. Nothing is kept between the rows
 // but an index of their serial numbers, which the caller lends: how many rows are entered, and a tag of each. Where
-// the index says that a serial number is new, it is; where it does not, or a row found no room in it, the file's own chunks
-// are gone through. Contracts cite Header, Reading, Append.rowNo and Calls.rowWith of the crate metafile, and specs/Walk,
-// Index, Cursor and Survey of this one; the laws are in proofs/Steps, Index, Cursors and Named.
-// Rests on chunk for one chunk and for the test of a sum, on index for the tags, on table, lines and fields for the header's
-// lines and values.
+// the index says that a serial number is new, it is; where it does not, the file's own chunks are gone through; where a row
+// finds no room in it, the index is left, and a look at the chunks ahead says how many rows are there. Contracts cite Header,
+// Reading, Append.rowNo and Calls.rowWith of the crate metafile, and specs/Walk, Index, Ahead, Cursor and Survey of this one;
+// the laws are in proofs/Steps, Index, Ahead, Cursors and Named.
+// Rests on chunk for one chunk and for the test of a sum, on index for the tags, on filter and order for the look ahead, on
+// table, lines and fields for the header's lines and values.
 //     answers  what the functions answer
 //     headers  the file header: strategy, mark, end, sum; the reading's number where it isn't whole
 //     earlier  serial numbers of earlier rows: looked up, and entered into the index
+//     lookahead  how many rows are there, by a look at the chunks ahead
 //     rows     what stands behind i rows: the chunk, its serial number, the step
 //     cursor   the cursor over the rows: at the first, at the next
 //     walks    the row of a number, the row of a serial number
@@ -17,6 +19,7 @@ mod answers;
 mod cursor;
 mod earlier;
 mod headers;
+mod lookahead;
 mod rows;
 mod surveys;
 mod walks;

@@ -5,13 +5,14 @@ ghost use lib.ListN.{length, drop};
 ghost use Rattle.metafile.specs.Header.{isLLC, markOf};
 ghost use Rattle.metafile.specs.Chunk.{chunkFault, serialOf};
 ghost use Rattle.metafile.specs.Reading.{rowsOf};
-ghost use Rattle.walk.specs.Walk.{headerOf, placeAfter, chunkAt, noLayout, stopWith, stepOf};
+ghost use Rattle.walk.specs.Walk.{headerOf, placeAfter, chunkAt, serialAt, noLayout, stopWith, stepOf};
 ghost use Rattle.walk.specs.Index.{Indexed};
 use crate::answers::Header;
 use crate::answers::Step;
 use crate::earlier::met;
 use chunk::Layout;
 use metafile::refusals;
+use table::places::CHUNK_SERIAL;
 use table::places::MARK;
 
 // The chunk at a place of the file.
@@ -50,6 +51,18 @@ pub fn serial_at(file: &[u8], h: Header, at: usize, l: Layout) -> [u8; 38]
     chunk::chunk_serial(&file[at..], &file[MARK..end], l)
 }
 
+// Where the serial number of the whole chunk at a place of the file stands.
+pub fn serial_place(file: &[u8], h: Header, at: usize, l: Layout) -> usize
+    requires { ⌜ h ≡ headerOf (now file) ⌝ }
+    requires { ⌜ h .number ≡ 0 ⌝ }
+    requires { ⌜ at ≤ length (now file) ⌝ }
+    requires { ⌜ l ≡ chunkAt (now file) at ⌝ }
+    requires { ⌜ l .number ≡ 0 ⌝ }
+    ensures { λ r. ⌜ (r ≡ serialAt (now (file .entry)) at) × (r + 38 ≤ length (now (file .entry))) ⌝ }
+{
+    at + l.contents + l.bytes + h.mark + CHUNK_SERIAL
+}
+
 // The parts of no chunk.
 pub fn no_layout() -> Layout
     ensures { λ r. ⌜ r ≡ noLayout ⌝ }
@@ -77,9 +90,10 @@ fn stopped(number: u8) -> Step
     }
 }
 
-// What stands behind i rows, the last of which ends at the place `at`; the next row's serial number is entered into the
-// index.
-pub fn step(file: &[u8], h: Header, at: usize, i: usize, index: &mut [u32]) -> Step
+// What stands behind i rows, the last of which ends at the place `at`: by the index where it knows that row i is there, else
+// the chunk is judged, and its serial number is looked up and entered. No row behind row `until` will be asked for: that
+// spares time alone.
+pub fn step(file: &[u8], h: Header, at: usize, i: usize, until: usize, index: &mut [u32]) -> Step
     requires { ⌜ h ≡ headerOf (now file) ⌝ }
     requires { ⌜ h .number ≡ 0 ⌝ }
     requires { ⌜ i ≤ length (rowsOf (now file)) ⌝ }
@@ -90,11 +104,18 @@ pub fn step(file: &[u8], h: Header, at: usize, i: usize, index: &mut [u32]) -> S
     if at == file.len() {
         return stopped(0);
     }
+    if i < index[0] as usize {
+        return Step {
+            go: true,
+            number: 0,
+            layout: known_chunk(file, h, at),
+        };
+    }
     let l = chunk_at(file, h, at);
     if l.number != 0 {
         return stopped(l.number);
     }
-    if met(file, h, i, index, serial_at(file, h, at, l)) {
+    if met(file, h, at, i, until, index, serial_place(file, h, at, l)) {
         return stopped(refusals::KNOWN_SERIAL);
     }
     Step {

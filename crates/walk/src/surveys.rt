@@ -1,16 +1,12 @@
 // The survey of a file for one that is to be appended to: one reading of the file.
-ghost use mathlib.Core.Bool.{false};
 ghost use mathlib.Core.Path.{_≡_};
-ghost use Rattle.metafile.specs.Fields.{known};
-ghost use Rattle.metafile.specs.Reading.{rowsOf, serialsOf};
-ghost use Rattle.walk.specs.Cursor.{At};
 ghost use Rattle.walk.specs.Survey.{noted, surveyOf};
 use crate::answers::Survey;
-use crate::cursor::Cursor;
+use crate::cursor::ALL;
 use crate::cursor::first;
 use crate::cursor::next;
 use crate::earlier::INDEX;
-use crate::earlier::seen;
+use crate::rows::serial_at;
 
 // Puts a value wherever row i is named: the values stand in the order of the rows named.
 fn note(values: &mut [usize], rows: &[usize], i: usize, value: usize)
@@ -28,19 +24,6 @@ fn note(values: &mut [usize], rows: &[usize], i: usize, value: usize)
     }
 }
 
-// Whether a serial number is in a row, where a cursor stops.
-fn known_in(file: &[u8], c: Cursor, index: &[u32], serial: [u8; 38]) -> bool
-    requires { ⌜ At (now file) c (now index) ⌝ }
-    requires { ⌜ c .go ≡ false ⌝ }
-    ensures { λ r. ⌜ r ≡ known serial (serialsOf (rowsOf (now (file .entry)))) ⌝ }
-{
-    let h = c.header;
-    if h.number != 0 {
-        return false;
-    }
-    seen(file, h, c.row, index, serial)
-}
-
 // The reading with rows enough, whether a serial number is in a row, and where the rows named as parents begin and end: of
 // the first 16 named, 0 where a row is not in the reading.
 pub fn survey(file: &[u8], serial: [u8; 38], parents: &[usize]) -> Survey
@@ -49,18 +32,22 @@ pub fn survey(file: &[u8], serial: [u8; 38], parents: &[usize]) -> Survey
     let mut index = [0u32; INDEX];
     let mut places = [0usize; 16];
     let mut ends = [0usize; 16];
-    let mut c = first(file, &mut index);
+    let mut known = false;
+    let mut c = first(file, ALL, &mut index);
     while c.go {
         note(&mut places, parents, c.row, c.at);
         note(&mut ends, parents, c.row, c.at + c.layout.end);
-        c = next(file, c, &mut index);
+        let h = c.header;
+        let layout = c.layout;
+        known = known | fields::same_serial(serial, serial_at(file, h, c.at, layout));
+        c = next(file, c, ALL, &mut index);
     }
     Survey {
         count: c.row,
         stop: c.at,
         number: c.number,
         good: c.header.good,
-        known: known_in(file, c, &index, serial),
+        known,
         places,
         ends,
     }

@@ -11,17 +11,19 @@ ghost use Rattle.walk.specs.Index.{Indexed};
 ghost use Rattle.walk.specs.Cursor.{At, namedOf};
 use crate::answers::Header;
 use crate::answers::Numbered;
+use crate::cursor::ALL;
 use crate::cursor::Cursor;
 use crate::cursor::first;
 use crate::cursor::next;
 use crate::cursor::none;
+use crate::cursor::toward;
 use crate::earlier::row_between;
 use crate::rows::serial_at;
 use metafile::LIMIT;
 use metafile::refusals;
 
 // The cursor at row k, from a cursor on that stands at it or before it. "13 row not in the reading"
-fn reached(file: &[u8], from: Cursor, k: usize, index: &mut [u32]) -> Cursor
+fn reached(file: &[u8], from: Cursor, k: usize, until: usize, index: &mut [u32]) -> Cursor
     requires { ⌜ At (now file) from (now index) ⌝ }
     requires { ⌜ from .row ≤ k ⌝ }
     requires { ⌜ length (now file) ≤ 1073741824 ⌝ }
@@ -32,22 +34,22 @@ fn reached(file: &[u8], from: Cursor, k: usize, index: &mut [u32]) -> Cursor
         if c.row == k {
             return c;
         }
-        c = next(file, c, index);
+        c = toward(file, c, k, until, index);
     }
     none(refusals::NO_ROW)
 }
 
 // The cursor at the row of a number, from 0, for the calls that name a row. "11 a lent byte buffer over 2^30", "13 row not
-// in the reading". The index is empty, and then has the rows up to that row.
-pub fn row_of(file: &[u8], k: usize, index: &mut [u32]) -> Cursor
+// in the reading". The index is empty, and then has the rows up to that row. Row `until` is the last that is asked for.
+pub fn row_of(file: &[u8], k: usize, until: usize, index: &mut [u32]) -> Cursor
     requires { ⌜ Indexed (now file) 0 (now index) ⌝ }
     ensures { λ r. ⌜ (r ≡ namedOf (now (file .entry)) k) × Indexed (now (file .entry)) (k + 1) (now (index .exit)) ⌝ }
 {
     if LIMIT < file.len() {
         return none(refusals::OVER_LIMIT);
     }
-    let c = first(file, index);
-    reached(file, c, k, index)
+    let c = first(file, until, index);
+    reached(file, c, k, until, index)
 }
 
 // The same for row k, from what row_of answered for row m, not behind it.
@@ -60,7 +62,7 @@ pub fn row_behind(file: &[u8], m: usize, named: Cursor, k: usize, index: &mut [u
     if named.number != 0 {
         return named;
     }
-    reached(file, named, k, index)
+    reached(file, named, k, k, index)
 }
 
 // The row with a serial number among the rows before row i: first from row m on, which begins at `place`, then before it. A
@@ -118,7 +120,7 @@ pub fn row_with(
                 place: c.at,
             };
         }
-        c = next(file, c, index);
+        c = next(file, c, ALL, index);
     }
     Numbered {
         there: false,

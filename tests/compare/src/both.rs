@@ -252,7 +252,7 @@ impl Debug for Appended {
 }
 
 /// What a row holds before it is written.
-const BLANK: Row = Row {
+pub const BLANK: Row = Row {
     serial: [PATTERN; 38],
     place: usize::MAX,
     header: 1,

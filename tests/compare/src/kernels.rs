@@ -6,6 +6,7 @@ mod c {
         pub fn kernel_word_sum(s: *const u8, length: usize) -> u8;
         pub fn kernel_find_plain(mark: *const u8, mark_length: usize, s: *const u8, length: usize) -> usize;
         pub fn kernel_find(mark: *const u8, mark_length: usize, s: *const u8, length: usize) -> super::Found;
+        pub fn kernel_hash(s: *const u8, length: usize) -> u64;
     }
 }
 
@@ -35,4 +36,9 @@ pub fn find_plain(mark: &[u8], s: &[u8]) -> usize {
 /// The same by a table of shifts. For a mark of no bytes, or of over 999, no place is counted.
 pub fn find(mark: &[u8], s: &[u8]) -> Found {
     unsafe { c::kernel_find(mark.as_ptr(), mark.len(), s.as_ptr(), s.len()) }
+}
+
+/// The hash by which the index finds a serial number.
+pub fn hash(serial: &[u8; 38]) -> u64 {
+    unsafe { c::kernel_hash(serial.as_ptr(), serial.len()) }
 }

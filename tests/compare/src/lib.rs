@@ -4,9 +4,11 @@
 //! | module | holds |
 //! |---|---|
 //! | `ffi` | the C interface |
-//! | `kernels` | inner functions of the library: the two sums |
+//! | `kernels` | inner functions of the library: two sums, two searches, the hash of a serial number |
 //! | `random` | seeded numbers |
 //! | `build`, `generate` | files built field by field; valid files of every kind |
+//! | `simple` | files of very many empty chunks |
+//! | `hashes` | the hash of serial numbers; serial numbers with one hash |
 //! | `damage` | damages of each kind of field |
 //! | `describe` | a chunk description for both |
 //! | `both` | each call with both, compared |
@@ -19,7 +21,9 @@ pub mod damage;
 pub mod describe;
 pub mod ffi;
 pub mod generate;
+pub mod hashes;
 pub mod kernels;
 pub mod parts;
 pub mod random;
+pub mod simple;
 pub mod tally;

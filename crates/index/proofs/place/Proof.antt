@@ -6,7 +6,7 @@ use native.Mathlib.Omega.{arith}
 use borrow.Author.Needs.{needs}
 use Rattle.index.specs.Index.{size}
 use Rattle.index.proofs.Laws.{slot-below}
-use Rattle.index.proofs.Loops.{place-is, place-inside}
+use Rattle.index.proofs.Loops.{place-near, place-far}
 use Rattle.index.proofs.place.Statement.{statement}
 use Rattle.index.proofs.place.Tie as tie
 
@@ -16,13 +16,16 @@ slot-requires c κs = search needs
 abbrev start : tie.After-slot → tie.Start
 start c = c .before .before
 
--- the slot lies inside the index
-inside : (c : tie.After-slot) → (1 + c .slot .result ≤ 196613) × (length (start c .args .index .now) ≡ 200705)
+-- the slots that are looked at lie inside the index
+inside : (c : tie.After-slot) → (513 + c .slot .result ≤ 197125) × (length (start c .args .index .now) ≡ 197126)
 unfolding size
 inside c = (omega (arith, c .slot .ensures, slot-below (start c .args .hash)), start c .pre)
 
 add-from : tie.Need-add-from
 add-from c = omega (arith, inside c .0)
+
+add-end : tie.Need-add-end
+add-end c = omega (arith, inside c .0)
 
 mul-first : tie.Need-mul-first
 mul-first c = omega (arith, inside c .0)
@@ -34,7 +37,7 @@ part-first-start : tie.Need-part-first-start
 part-first-start c = omega (arith, inside c .0, inside c .1)
 
 part-first-end : tie.Need-part-first-end
-part-first-end c = search needs
+part-first-end c = omega (arith, inside c .0, inside c .1)
 
 tag-requires : tie.Need-tag-requires
 tag-requires c κs = search needs
@@ -43,20 +46,23 @@ first-requires : tie.Need-first-requires
 first-requires c κs = search needs
 
 add-result : tie.Need-add-result
-add-result c =
-    let t = c .before in
-    let s = t .before .before in
-    let place =
-    place-inside (start s .args .hash) (start s .args .index .now) (s .slot .result) (t .tag .result) (c .first .result) (s .slot .ensures)
-    (t .tag .ensures) (c .first .ensures) (omega (arith, inside s .0, inside s .1)) in
-    omega (arith, place, inside s .1)
+add-result c = omega (arith, inside (c .before .before .before .before) .0)
 
 returns : tie.Need-returns
 returns c =
-    let t = c .before in
+    let f = c .before in
+    let t = f .before in
     let s = t .before .before in
-    place-is (start s .args .hash) (start s .args .index .now) (s .slot .result) (t .tag .result) (c .first .result) (s .slot .ensures)
-    (t .tag .ensures) (c .first .ensures)
+    place-near (start s .args .hash) (start s .args .index .now) (s .slot .result) (t .tag .result) (f .first .result) (s .slot .ensures)
+    (t .tag .ensures) (omega (arith, inside s .0, inside s .1)) (f .first .ensures) (c .if1 .taken)
+
+returns-2 : tie.Need-returns-2
+returns-2 c =
+    let f = c .before in
+    let t = f .before in
+    let s = t .before .before in
+    place-far (start s .args .hash) (start s .args .index .now) (s .slot .result) (t .tag .result) (f .first .result) (s .slot .ensures)
+    (t .tag .ensures) (omega (arith, inside s .0, inside s .1)) (f .first .ensures) (omega (arith, c .if1 .left))
 
 pub place-spec : {M : Type 1} → statement M
 place-spec =
@@ -64,6 +70,7 @@ place-spec =
     (tie.spec
     slot-requires
     add-from
+    add-end
     mul-first
     sub-first
     part-first-start
@@ -71,4 +78,5 @@ place-spec =
     tag-requires
     first-requires
     add-result
-    returns)
+    returns
+    returns-2)

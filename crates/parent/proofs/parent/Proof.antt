@@ -1,5 +1,5 @@
 -- `parent::parent` meets its contract. Assumes nothing.
-use Prim.Native.Nat.{ℕ, _+_, _*_, _/_, _≤_, _<_}
+use Prim.Native.Nat.{ℕ, _+_, _*_, _≤_, _<_}
 use mathlib.Core.Path.{_≡_, ap, _∙_}
 use borrow.Author.Needs.{needs}
 use borrow.Author.Tests.{not-true, not-false}
@@ -12,6 +12,9 @@ use Rattle.walk.proofs.Named.{Named, named, named-at, earlier-place}
 use Rattle.parent.proofs.Answers.{refused-row, refused-14, dependency-inside, Met, met, missing, answered}
 use Rattle.parent.proofs.parent.Statement.{statement}
 use Rattle.parent.proofs.parent.Tie as tie
+
+sought-from-requires : tie.Need-sought-from-requires
+sought-from-requires c κs = search needs
 
 slice-aggregate-row-of : tie.Need-slice-aggregate-row-of
 slice-aggregate-row-of c = search needs
@@ -35,9 +38,9 @@ abbrev at-row : tie.Else1 → tie.After-row-behind
 at-row c = c .before .before .before
 
 abbrev start : tie.Else1 → tie.Start
-start c = at-row c .before .before .before .before .before .before
+start c = at-row c .before .before .before .before .before .before .before
 
--- the row halfway to it
+-- the row from which on is sought
 abbrev halfway : tie.Else1 → tie.After-row-of
 halfway c = at-row c .before .before .before
 
@@ -88,8 +91,9 @@ row-with-requires c κs =
     let e = at-own (c .before .before .before) in
     let w = own e in
     let row = start e .args .row in
-    let less : row / 2 ≤ row = omega arith in
-    let place = earlier-place (start e .args .file .now) (row / 2) row less (halfway e .row-of .result) (halfway e .row-of .ensures .0) w in
+    let from = halfway e .before .before .sought-from in
+    let less = from .ensures in
+    let place = earlier-place (start e .args .file .now) (from .result) row less (halfway e .row-of .result) (halfway e .row-of .ensures .0) w in
     (named-at w (at-row e .row-behind .ensures .1), (w .goes, (omega (arith, w .row-is, less), place)))
 
 -- the row with the dependency's serial number
@@ -134,6 +138,7 @@ pub parent-spec : {M : Type 1} → statement M
 parent-spec =
     tie.close
     (tie.spec
+    sought-from-requires
     slice-aggregate-row-of
     row-of-requires
     slice-aggregate-row-behind

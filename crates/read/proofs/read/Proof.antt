@@ -116,15 +116,15 @@ F-ty = spell code.Mir.table (pointee (F.the-row .written))
 
 -- the index, and its type as `code.function` has it
 abbrev Ix : RattleType
-Ix = Array u32 200705
+Ix = Array u32 197126
 
 abbrev Ix-ty : Ty
-Ix-ty = spell code.Mir.table (tyArray (tyInt w32) 200705)
+Ix-ty = spell code.Mir.table (tyArray (tyInt w32) 197126)
 
 abbrev ix-vals : List ℕ → List Val
 ix-vals l = array-vals (uint-vals w32) l
 
-ix-room : Room u32 200705
+ix-room : Room u32 197126
 ix-room = (lit< tt, lit< tt)
 
 abbrev row-val : Row → Val
@@ -206,7 +206,7 @@ module _ {M : Type 1} (𝓤 : URA M) (H : Heap 𝓤) (A : Atoms 𝓤) (W : Given
   y c δ l = record { ptr = (c, 0); name = δ; now = l }
 
   abbrev vy : ℕ → Val
-  vy c = sliceVal (c, 0) 200705
+  vy c = sliceVal (c, 0) 197126
 
   abbrev Lent : ℕ → ℕ → GName → List ℕ → Fml
   Lent ν c δ l = MutSlice (named 1) (ν ∷ []) u32 .own (y c δ l) (vy c ∷ [])
@@ -246,15 +246,15 @@ module _ {M : Type 1} (𝓤 : URA M) (H : Heap 𝓤) (A : Atoms 𝓤) (W : Given
   asks-last : (st : State) → ent 𝓤 (sem 𝓤 H A (S.the-row .own st (val st ∷ []))) (Last 𝓤 H A mem run .pre (to-last st))
   asks-last st = qed W (‵ (S.the-row .own st (val st ∷ [])) ∷ []) ∵ nothing ! $ move ! (1 ∷ 0 ∷ []) $ fjoin ! $ nothing ! $ join ! $ nothing ! $ move ! (1 ∷ 0 ∷ []) $ done !
 
-  says-empty : (r : List ℕ) → ent 𝓤 (ensured 𝓤 H A empty′.ended (empty′.clauses 𝓤 H A mem run) tt tt tt r) (fact 𝓤 (r ≡ replicate 200705 0))
-  says-empty r = exE 𝓤 _ (λ ws. snd∗ 𝓤 (sem 𝓤 H A (lasts empty′.ended tt tt ws)) (fact 𝓤 (r ≡ replicate 200705 0)))
+  says-empty : (r : List ℕ) → ent 𝓤 (ensured 𝓤 H A empty′.ended (empty′.clauses 𝓤 H A mem run) tt tt tt r) (fact 𝓤 (r ≡ replicate 197126 0))
+  says-empty r = exE 𝓤 _ (λ ws. snd∗ 𝓤 (sem 𝓤 H A (lasts empty′.ended tt tt ws)) (fact 𝓤 (r ≡ replicate 197126 0)))
 
   says-last : (st : State) (r : ReadAnswer) → ent 𝓤 (ensured 𝓤 H A last′.ended (last′.clauses 𝓤 H A mem run) tt (st, tt) tt r) (fact 𝓤 (r ≡ lastOf st))
   says-last st r = exE 𝓤 _ (λ ws. snd∗ 𝓤 (sem 𝓤 H A (lasts last′.ended tt (st, tt) ws)) (fact 𝓤 (r ≡ lastOf st)))
 
   -- ---- the index is lent, and comes back
   abbrev Lender : ℕ → ℕ → GName → Fml
-  Lender ν c δ = flent (ν ∷ []) (Held u32 200705 c 0 δ)
+  Lender ν c δ = flent (ν ∷ []) (Held u32 197126 c 0 δ)
 
   abbrev Cell : ℕ → Val → Fml
   Cell c v = fat fullShare Ix-ty c 0 v
@@ -262,16 +262,16 @@ module _ {M : Type 1} (𝓤 : URA M) (H : Heap 𝓤) (A : Atoms 𝓤) (W : Given
   lends : (ν c : ℕ) (l : List ℕ) (v : Val) → Is Ix l (v ∷ []) → ent 𝓤 (sem 𝓤 H A (Cell c v)) (H .⇛ (ex 𝓤 (λ (δ : GName). sep 𝓤 (sem 𝓤 H A (Lent ν c δ l)) (sem 𝓤 H A (Lender ν c δ)))))
   lends ν c l v is =
       qed W (‵ (Cell c v) ∷ []) ∵ use1 W (‵ (cellAt fullShare (Ix .mir) (v ∷ []) c 0)) (W .laws .at-raw fullShare Ix-ty c 0 v) $
-      owned ! Ix (Is Ix) (array-makes 𝓤 H A W u32 (uint-makes 𝓤 H A W w32) 200705) l _ is $ move ! (1 ∷ 0 ∷ []) $ by ! (lends-array 𝓤 H A W u32 200705 (ν ∷ []) c 0 (named 1) tt ix-room l v)
+      owned ! Ix (Is Ix) (array-makes 𝓤 H A W u32 (uint-makes 𝓤 H A W w32) 197126) l _ is $ move ! (1 ∷ 0 ∷ []) $ by ! (lends-array 𝓤 H A W u32 197126 (ν ∷ []) c 0 (named 1) tt ix-room l v)
 
   comes-back : (ν c : ℕ) (δ : GName) (l : List ℕ) → ent 𝓤 (sep 𝓤 (A .dead (ν ∷ [])) (sep 𝓤 (sem 𝓤 H A (Lender ν c δ)) (sem 𝓤 H A (finally u32 δ l)))) (H .⇛ (sep 𝓤 (sem 𝓤 H A (Ix .own l (ix-vals l))) (sem 𝓤 H A (Cell c (only (ix-vals l))))))
   comes-back ν c δ l =
       qed W (‵ (fdead (ν ∷ [])) ∷ ‵ (Lender ν c δ) ∷ ‵ (finally u32 δ l) ∷ []) ∵ updating ! $
-      use3 W (later (‵ (cellAt fullShare (Ix .mir) (ix-vals l) c 0) ⊛ ‵ (Ix .own l (ix-vals l)))) (array-back 𝓤 H A W u32 200705 (ν ∷ []) c 0 ix-vals (array-tells u32 (uint-vals w32) (uint-tells w32) 200705) δ l) $ await ! tt $ split ! $
+      use3 W (later (‵ (cellAt fullShare (Ix .mir) (ix-vals l) c 0) ⊛ ‵ (Ix .own l (ix-vals l)))) (array-back 𝓤 H A W u32 197126 (ν ∷ []) c 0 ix-vals (array-tells u32 (uint-vals w32) (uint-tells w32) 197126) δ l) $ await ! tt $ split ! $
       use1 W (‵ (Cell c (only (ix-vals l)))) (W .laws .raw-at fullShare Ix-ty c 0 (only (ix-vals l))) $ move ! (1 ∷ 0 ∷ []) $ at-once ! $ done !
 
   ix-typed : (l : List ℕ) (v : Val) → Is Ix l (v ∷ []) → Holds (hasTy Ix-ty v) × WT v
-  ix-typed l v is = array-lawful 𝓤 H A W u32 (uint-lawful 𝓤 H A W w32) 200705 .typed l (v ∷ []) is .0
+  ix-typed l v is = array-lawful 𝓤 H A W u32 (uint-lawful 𝓤 H A W w32) 197126 .typed l (v ∷ []) is .0
 
   -- ---- the loop
   record Point : Type 0 where
@@ -304,7 +304,7 @@ module _ {M : Type 1} (𝓤 : URA M) (H : Heap 𝓤) (A : Atoms 𝓤) (W : Given
 
     -- a reference to the index, and the slice of it
     abbrev ref-ty : Ty
-    ref-ty = tyRef erased mut (tyArray (tyInt w32) 200705)
+    ref-ty = tyRef erased mut (tyArray (tyInt w32) 197126)
 
     abbrev part-ty : Ty
     part-ty = sliceTy (tyRef erased mut (tyInt w32))
@@ -411,7 +411,7 @@ module _ {M : Type 1} (𝓤 : URA M) (H : Heap 𝓤) (A : Atoms 𝓤) (W : Given
       -- [obs; the borrow; κ₁'s token; what the file owns; κ₀'s token; _13; …; …; room for _0; …]: empty_index()
       use0 W (raw (Empty 𝓤 H A mem run .pre to-empty)) asks-empty $ calls-at ! fm (Empty 𝓤 H A mem run) empty-known to-empty (no-more !) (λ v.
       use1 W (later (some (λ (l : List ℕ). (‵ ftrue ⊛ ‵ (Ix .own l (v ∷ []))) ⊛ raw (ensured 𝓤 H A empty′.ended (empty′.clauses 𝓤 H A mem run) tt tt tt l)))) (id⊢ 𝓤 _) $ await ! tt $ pick ! (λ l.
-      split ! $ move ! (1 ∷ []) $ use1 W (raw (fact 𝓤 (l ≡ replicate 200705 0))) (says-empty l) $ heard ! (l ≡ replicate 200705 0) (λ none. split ! $ drop ! $ peeks ! Ix (Is Ix) (shows 𝓤 H A Ix) l (v ∷ []) (λ lis.
+      split ! $ move ! (1 ∷ []) $ use1 W (raw (fact 𝓤 (l ≡ replicate 197126 0))) (says-empty l) $ heard ! (l ≡ replicate 197126 0) (λ none. split ! $ drop ! $ peeks ! Ix (Is Ix) (shows 𝓤 H A Ix) l (v ∷ []) (λ lis.
       land ! (from ! (stop !)) (init ! 20 refl (ix-typed l v lis)) $
       assigns ! (of-opd ! (load ! (from ! (stop !)) (look ! 20 refl))) (from ! (stop !)) (init ! 24 refl (ix-typed l v lis)) $
       -- first(file, room, &mut index): the index is lent for a lifetime ν of the call

@@ -1,5 +1,7 @@
 //! Valid files of every kind with one, two or three fields damaged at once, so that the order of the tests decides.
 
+use std::ops::Range;
+
 use crate::both::Run;
 use crate::build::File;
 use crate::damage::ways;
@@ -14,21 +16,26 @@ pub fn run(run: &mut Run, files: u64, each: u64) {
         let chunks = random.pick(&[1, 1, 2, 3]);
         let nul = random.one_in(2);
         let file = generate::file(&mut random, nul, chunks);
-        for case in 0..each {
-            run.case = number * each + case;
-            let mut random = Random::new(run.seed, run.part, run.case);
-            let random = &mut random;
-            run.names = vec![format!("{chunks} chunks, mark of {}, NUL {nul}", file.mark.len())];
-            let mut bytes = damaged(run, random, &file);
-            if random.one_in(10) {
-                repeat(run, random, &file, &mut bytes);
-            }
-            let (reading, _) = run.read(&bytes, 9);
-            let _ = run.read(&bytes, random.below(3));
-            look(run, random, &bytes, reading.count);
-            if random.one_in(4) {
-                let _ = run.listing(&bytes, 1000);
-            }
+        damages(run, &file, number * each..(number + 1) * each);
+    }
+}
+
+/// One file, damaged anew in each of these cases.
+pub fn damages(run: &mut Run, file: &File, cases: Range<u64>) {
+    for case in cases {
+        run.case = case;
+        let mut random = Random::new(run.seed, run.part, run.case);
+        let random = &mut random;
+        run.names = vec![format!("{} chunks, mark of {}, NUL {}", file.rows.len(), file.mark.len(), file.nul)];
+        let mut bytes = damaged(run, random, file);
+        if random.one_in(10) {
+            repeat(run, random, file, &mut bytes);
+        }
+        let (reading, _) = run.read(&bytes, 9);
+        let _ = run.read(&bytes, random.below(3));
+        look(run, random, &bytes, reading.count);
+        if random.one_in(4) {
+            let _ = run.listing(&bytes, 1000);
         }
     }
 }

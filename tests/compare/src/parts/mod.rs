@@ -4,6 +4,7 @@ pub mod appends;
 pub mod begins;
 pub mod cuts;
 pub mod damaged;
+pub mod every_call;
 pub mod limits;
 pub mod listings;
 pub mod marks;

@@ -9,7 +9,7 @@ use Rattle.lines.proofs.words.is_word.Tie as tie
 returns : tie.Need-returns
 returns c =
     let args = c .before .before .before .before .before .args in
-    c .same-bytes .ensures ∙ same-word (args .s .now) (args .at) (args .w) (omega arith)
+    c .same-word .ensures ∙ same-word (args .s .now) (args .at) (args .w) (omega arith)
 
 pub is-word-spec : {M : Type 1} → statement M
 is-word-spec =

@@ -6,7 +6,9 @@ use Rattle.walk.proofs.cursor.behind.Statement.{statement}
 use Rattle.walk.proofs.cursor.behind.Tie as tie
 
 step-requires : tie.Need-step-requires
-step-requires c κs = search needs
+step-requires c κs =
+    let w = c .before .before .before .pre in
+    (w .0 .header-is, (w .0 .whole, (w .0 .few, (w .0 .place-is, w .1))))
 
 same-length : tie.Need-same-length
 same-length c = search needs

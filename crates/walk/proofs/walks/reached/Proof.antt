@@ -13,10 +13,10 @@ use Rattle.walk.proofs.walks.reached.Statement.{statement}
 use Rattle.walk.proofs.walks.reached.Tie as tie
 
 abbrev Inv-loop : tie.InvT-loop
-Inv-loop file k index₀ c₀ index c = At file c index × (c .row ≤ k)
+Inv-loop file k until index₀ c₀ index c = At file c index × (c .row ≤ k)
 
 abbrev μ-loop : tie.MeasureT-loop
-μ-loop file k index₀ c₀ index c = length (rowsOf file) - c .row
+μ-loop file k until index₀ c₀ index c = length (rowsOf file) - c .row
 
 abbrev start : tie.At-loop Inv-loop μ-loop → tie.Start Inv-loop μ-loop
 start c = c .before .before .before
@@ -37,17 +37,19 @@ returns c =
     let l = i .before in
     (named-row _ _ (start l .pre .1 .1) (omega (arith, here i .turn .row, c .if1 .taken)) (l .loop .inv .0 .is) (c .if1 .taken), indexed-more (l .loop .inv .0 .indexed) (omega (arith, c .if1 .taken)))
 
-next-requires : tie.Need-next-requires Inv-loop μ-loop
-next-requires c κs = let i = c .before .before .before in (i .before .loop .inv .0, i .loop-test .taken)
+toward-requires : tie.Need-toward-requires Inv-loop μ-loop
+toward-requires c κs =
+    let e = c .before in
+    let i = e .before .before in
+    (i .before .loop .inv .0, (i .loop-test .taken, omega (arith, i .before .loop .inv .1, e .if1 .left)))
 
 loop-less : tie.Need-loop-less Inv-loop μ-loop
-loop-less c = let n = c .before .before in omega (arith, here (n .before .before .before .before) .turn .row, n .next .ensures .1)
+loop-less c = let n = c .before .before in omega (arith, here (n .before .before .before .before) .turn .row, n .toward .ensures .1)
 
 loop-again : tie.Need-loop-again Inv-loop μ-loop
 loop-again c =
     let n = c .before .before in
-    let e = n .before .before in
-    (n .next .ensures .0, omega (arith, n .next .ensures .1, e .before .before .before .loop .inv .1, e .if1 .left))
+    (n .toward .ensures .0, n .toward .ensures .2)
 
 none-requires : tie.Need-none-requires Inv-loop μ-loop
 none-requires c κs = search needs
@@ -70,7 +72,7 @@ reached-spec =
     loop-holds
     same-length
     returns
-    next-requires
+    toward-requires
     loop-less
     loop-again
     none-requires

@@ -1,0 +1,3 @@
+-- What the contracts cite.
+--     Filter   the bits of a hash, whether they are set, and set
+pub mod Filter

@@ -1,0 +1,54 @@
+//! "A call may take up to ADS_STACK_BYTES of stack": 1 MiB. Each call that reads a file is made in a thread that has no more, on
+//! a file that begins with two serial numbers of one hash, so that the reading looks ahead. A call that took more would end the
+//! whole process.
+
+use std::thread;
+
+use compare::ffi::{self, Table};
+use compare::hashes::one_hash;
+use compare::parts::every_call::{new_serials, Case};
+use compare::simple::{random, Many};
+
+const STACK_BYTES: usize = 1 << 20;
+
+fn in_small_thread(work: impl FnOnce() + Send) {
+    thread::scope(|scope| {
+        let thread = thread::Builder::new().stack_size(STACK_BYTES).spawn_scoped(scope, work);
+        thread.expect("a thread").join().expect("the work ends");
+    });
+}
+
+fn case(chunks: usize) -> Case {
+    Case::new(Many::of(&[one_hash(2), random(chunks - 2)].concat()), 1, chunks - 2)
+}
+
+#[test]
+fn each_call_that_reads() {
+    let case = case(2_000);
+    let file = &case.bytes[..];
+    let mut table = Table::new(case.last + 1);
+    in_small_thread(|| assert_eq!(ffi::read(file, &mut table).count, case.last + 1));
+    in_small_thread(|| assert_eq!(ffi::contents(file, case.last).number, 0));
+    in_small_thread(|| assert_eq!(ffi::parent(file, case.last, 1).row, case.late));
+    in_small_thread(|| assert_eq!(ffi::gather(file, case.multi, b"P1", &mut [0; 8]).length, 8));
+}
+
+#[test]
+fn append() {
+    let case = case(2_000);
+    let (mut buffer, given) = case.append(new_serials()[2]);
+    let (description, length) = (given.description.proved(), case.bytes.len());
+    in_small_thread(|| {
+        let ends = ffi::append(&mut buffer, length, description, &given.parents, b"", b"new", false);
+        assert_eq!(ends.number, 0);
+    });
+}
+
+/// The listing takes 65,536 bytes at most.
+#[test]
+fn listing() {
+    let case = case(70);
+    let mut text = vec![0; 10_000];
+    in_small_thread(|| assert_eq!(ffi::listing(&case.bytes, &mut text).number, 0));
+    assert!(text.starts_with(b"header good\nchunks 72\n"));
+}
