@@ -4,13 +4,13 @@
 
    Rules for every signature. The caller lends every buffer, for the time of the call: no call allocates, keeps a
    pointer, prints, or changes what it is lent by a pointer to const. A pointer with a length is to that many bytes
-   (or rows, or row numbers), all of them set, and is not null, also where the length is 0; `const uint8_t word[3]`
-   is a pointer to just 3 bytes. What a call may write must not overlap anything else that is lent to it. Apart from
-   that a call takes any bytes and any numbers. It answers a struct by value (ads_is_clean a bool). Its `number` is
-   0, or the number of a refusal (the table below); then the other values are 0 and false and what was lent is
-   untouched. Only ads_read answers its values and rows beside a number. Rows and dependencies count from 0, places
-   from the file's first byte. Texts have no zero byte behind them. A file is lent as a whole, in memory; reading it
-   from disk and writing it there is the caller's. A call may take up to ADS_STACK_BYTES of stack. */
+   (or rows, row numbers, verdicts), all of them set, and is not null, also where the length is 0;
+   `const uint8_t word[3]` is a pointer to just 3 bytes. What a call may write must not overlap anything else that is
+   lent to it. Apart from that a call takes any bytes and any numbers. It answers a struct by value (ads_is_clean a
+   bool). Its `number` is 0, or the number of a refusal (the table below); then the other values are 0 and false and
+   what was lent is untouched. Only ads_read answers its values and rows beside a number. Rows and dependencies count
+   from 0, places from the file's first byte. Texts have no zero byte behind them. A file is lent as a whole, in
+   memory; reading it from disk and writing it there is the caller's. A call may take up to ADS_STACK_BYTES of stack. */
 #ifndef ADS_H
 #define ADS_H
 
@@ -23,8 +23,8 @@ extern "C" {
 #endif
 
 /* The version of this header and of its library; the number is major * 1000000 + minor * 1000 + patch. */
-#define ADS_VERSION "0.5.3"
-#define ADS_VERSION_NUMBER 5003
+#define ADS_VERSION "0.6.0"
+#define ADS_VERSION_NUMBER 6000
 
 /* ---- sizes */
 
@@ -48,6 +48,13 @@ extern "C" {
 #define ADS_APPEND_ROOM(length, mark_length, parent_count, specific_length, contents_length) \
     ((length) + 856 + 344 * (parent_count) + (specific_length) + (contents_length) + 2 * (mark_length))
 
+/* Bytes that ads_relations_write writes at most for a file whose rows have so many dependencies together. */
+#define ADS_RELATIONS_ROOM(dependencies) (131 + 605 * (dependencies))
+
+/* Verdicts that are enough for ads_relations_check of a row with so many bytes of contents: a relation line has at
+   least 12 bytes, and a line feed before it. */
+#define ADS_MOST_VERDICTS(bytes) ((bytes) / 13)
+
 /* ---- the numbers: docs/numbers.tsv */
 
 /* 1 to 9 are faults of the bytes at ads_read's stop, and of what ads_begin and ads_append were given. */
@@ -69,12 +76,16 @@ enum {
     ADS_ROWS_FULL = 10,     /* read: another whole chunk with a new serial number, and no row left */
     ADS_LIMIT = 11,         /* every call: a lent byte buffer over 2^30, or append's length over the buffer's */
     ADS_NOT_CLEAN = 12,     /* append: the file has no bytes, or doesn't read to its end with number 0 */
-    ADS_NO_ROW = 13,        /* parent, contents, gather: no such row; append: no such parent, repeated, or over 16 */
+    ADS_NO_ROW = 13,        /* parent, contents, gather, relations_check: no such row; append: no such parent, repeated,
+                               or over 16 */
     ADS_NO_DEPENDENCY = 14, /* parent: no such dependency; gather: not a MultiChunk, or the ID is undeclared */
     ADS_MARK_ZERO = 15,     /* begin, append: the mark has a zero byte */
     ADS_OPEN = 16,          /* append: open under LLC or for BIN, or the mark is first found before the data's end */
     ADS_MULTICHUNK = 17,    /* append: of a MultiChunk */
-    ADS_NO_ROOM = 18        /* begin, append, gather, listing: the lent buffer is too short for the result */
+    ADS_NO_ROOM = 18,       /* begin, append, gather, relations_write, listing: the lent buffer is too short for the
+                               result; relations_check: the list is */
+    ADS_NOT_RELATIONS = 19, /* relations_check: the row's sub-format isn't ADS\SYS\Relations */
+    ADS_HEADING = 20        /* relations_check: the first line of the contents isn't the heading */
 };
 
 /* A number in words, for a message. */
@@ -99,7 +110,9 @@ static inline const char *ads_words(int number)
     case ADS_MARK_ZERO: return "the mark has a zero byte";
     case ADS_OPEN: return "open under LLC or for BIN, or the mark is found before the data's end";
     case ADS_MULTICHUNK: return "a MultiChunk can't be appended";
-    case ADS_NO_ROOM: return "the buffer is too short for the result";
+    case ADS_NO_ROOM: return "the buffer or list is too short for the result";
+    case ADS_NOT_RELATIONS: return "the row isn't a relation chunk";
+    case ADS_HEADING: return "the heading line of the relation chunk differs";
     default: return "no such number";
     }
 }
@@ -140,6 +153,18 @@ typedef struct ads_written {
     size_t length;  /*  0: bytes written at the start of the buffer */
     uint8_t number; /*  8 */
 } ads_written;      /* 16 bytes */
+
+/* What is said of a relation line. */
+enum {
+    ADS_DECLARED = 1,   /* the header of a row declares just that dependency */
+    ADS_UNDECLARED = 2, /* none does */
+    ADS_MALFORMED = 3   /* it hasn't five well-formed fields */
+};
+
+typedef struct ads_counted {
+    size_t count;   /*  0: verdicts written at the start of the list */
+    uint8_t number; /*  8 */
+} ads_counted;      /* 16 bytes */
 
 typedef struct ads_parent_answer {
     size_t row;     /*  0: the row with the dependency's serial number; 0 where none is found */
@@ -191,6 +216,19 @@ ads_part ads_contents(const uint8_t *file, size_t length, size_t row);
    their state. Tests 11, 13, 14, 18. */
 ads_written ads_gather(const uint8_t *file, size_t length, size_t row, const uint8_t *id, size_t id_length,
                        uint8_t *buffer, size_t buffer_length);
+
+/* Writes the contents of a relation chunk (ADS\SYS\Relations) for the file: the heading line, then a line for each
+   dependency of each row, in row order: serial number and sub-format of the child and of the parent, as the child's
+   header has them, divided by tabs. Left out are the dependencies of a relation chunk, and those that name that
+   sub-format or whose serial number is a relation chunk's. ADS_RELATIONS_ROOM says how many bytes are enough. Bytes
+   past the length keep their state. Tests 11, 18. */
+ads_written ads_relations_write(const uint8_t *file, size_t length, uint8_t *buffer, size_t buffer_length);
+
+/* Writes, for each relation line of the row's contents, in their order, ADS_DECLARED, ADS_UNDECLARED or ADS_MALFORMED
+   into a list of `room` entries; ADS_MOST_VERDICTS says how many are enough. A relation line is one whose first field
+   is "ADS relation"; others are comments and get no entry. Entries past the count keep their state. Tests 11 (of the
+   file alone), 13, 19, 20, 18. */
+ads_counted ads_relations_check(const uint8_t *file, size_t length, size_t row, uint32_t *verdicts, size_t room);
 
 /* Writes the listing of the file's table as text: header sum ("header none" of a file of no bytes), count, a line for
    each row, stop and number. An input over 65,536 bytes is no refusal: its text is "end 0 11" and LF.

@@ -18,16 +18,16 @@ from ads_metafile.command.parser import DESCRIPTION, make_parser  # noqa: E402
 
 SYNOPSIS = ("ads SUBCOMMAND [OPTION ..] FILE ..", "ads [SUBCOMMAND] --help", "ads --version")
 STATUS = (("0", "Done. Of check: every file is clean and all sums are good."),
-          ("1", "Refused with a number, or a file isn't clean. Of check: or a sum is bad. Of cut-back: there is "
-           "something to cut, or it isn't cut."),
+          ("1", "Refused with a number, or a file isn't clean. Of check: or a sum is bad. Of relations --check: or a "
+           "line isn't declared. Of cut-back: there is something to cut, or it isn't cut."),
           ("2", "Usage: options, or a file of fields, that can't be taken."),
           ("3", "Input or output: a file can't be opened, read, locked or written; also whatever is unexpected."))
 AFTER_STATUS = """
 A signal (SIGINT, SIGTERM, SIGHUP) ends the process by that signal, and no metafile was changed. From the first byte
 that append, begin or cut-back writes on the three are held back: it is done, and ends as done.
 
-A closed standard output ends the command quietly, with the status that was earned; only contents and gather need
-one."""
+A closed standard output ends the command quietly, with the status that was earned; only contents, gather and relations
+need one."""
 MESSAGES = """
 On standard error, one line each: the file, the number of the refusal, its words, what can be done. Names with
 characters that aren't printable are quoted, with escapes."""

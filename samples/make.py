@@ -71,6 +71,30 @@ def padded() -> bytes:
                     [Dependency(FIRST, "ADS\\DATA\\TEST")], " "))
 
 
+def relation(*fields: str) -> str:
+    """A line of a relation chunk: serial number and sub-format of the child, and of the parent."""
+    child, child_format, parent, parent_format = fields
+    return "\t".join(("ADS relation", child, child_format.ljust(256), parent, parent_format.ljust(256)))
+
+
+def relations() -> bytes:
+    """Two chunks, and a relation chunk: a comment, two lines that the second chunk's header declares, one that it
+    doesn't, and one without its last tab, as chapter 7 prints it."""
+    test, edit, grid = "ADS\\DATA\\TEST", "ADS\\DATA\\EDIT", "ADS\\DATA\\GRID"
+    child = head(edit, parents=[Dependency(FIRST, test), Dependency(ELSEWHERE, grid)])
+    lines = [
+        "\t".join(("ADS Metafile Master Relation Chunk Revision 1.00", "Child serial number", "Child sub-format ID",
+                   "Parent serial number", "Parent sub-format ID")),
+        "line 7, by the recorder",
+        relation(SECOND, edit, FIRST, test),
+        relation(SECOND, edit, ELSEWHERE, grid),
+        relation(SECOND, edit, FIRST, grid),
+        relation(SECOND, edit, FIRST, test).replace(FIRST + "\t", FIRST),
+    ]
+    text = "".join(line + "\n" for line in lines).encode("ascii")
+    return one_chunk() + plain(b"", SECOND, b"edited\n", child) + plain(b"", THIRD, text, head("ADS\\SYS\\Relations"))
+
+
 def good() -> dict[str, bytes]:
     """Clean files, of two of them a sum is bad; and a file of no bytes, which reads with 0 and isn't clean."""
     return {
@@ -80,6 +104,7 @@ def good() -> dict[str, bytes]:
         "multichunk": multichunk(),
         "survey": survey(),
         "padded": padded(),
+        "relations": relations(),
         "begun": header("LLC", b""),
         "bad-chunk-sum": header("LLC", b"") + plain(b"", FIRST, b"abc", off=1),
         "bad-header-sum": header("LLC", b"", off=1) + plain(b"", FIRST, b"abc"),

@@ -7,6 +7,7 @@
 mod calls;
 mod files;
 mod many;
+mod relations;
 mod timing;
 
 use std::hint::black_box;
@@ -55,9 +56,10 @@ struct Report {
 type Part = (&'static str, fn(&mut Vec<f64>) -> Report);
 
 #[rustfmt::skip]
-const PARTS: [Part; 11] = [
+const PARTS: [Part; 12] = [
     ("sums", both_sums), ("i", large), ("ii", small), ("iii", open), ("iv", mini_chunks), ("v", growth),
-    ("vii", small_open), ("viii", hostile_marks), ("ix", many::growth), ("x", many::hostile), ("append", long_append),
+    ("vii", small_open), ("viii", hostile_marks), ("ix", many::growth), ("x", many::hostile),
+    ("xi", relations::relations), ("append", long_append),
 ];
 
 type Sum = fn(&[u8]) -> u8;

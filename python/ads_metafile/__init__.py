@@ -24,17 +24,20 @@ ads_metafile._numbers.Refused: refused with 9 (the serial number is already in a
 """
 from ._file import Dependency, File, Parent
 from ._library import MOST_BYTES
-from ._numbers import (CUT, DIFFERS, FORM, LENGTH, LIMIT, MARK_MINI, MARK_ZERO, MULTICHUNK, NAMES, NO_DEPENDENCY,
-                       NO_ROOM, NO_ROW, NOT_CLEAN, OK, OPEN, REPEATED, ROWS_FULL, SHORT_ID, TAPE, TITLE, WORDS, Refused)
+from ._numbers import (CUT, DIFFERS, FORM, HEADING, LENGTH, LIMIT, MARK_MINI, MARK_ZERO, MULTICHUNK, NAMES,
+                       NO_DEPENDENCY, NO_ROOM, NO_ROW, NOT_CLEAN, NOT_RELATIONS, OK, OPEN, REPEATED, ROWS_FULL,
+                       SHORT_ID, TAPE, TITLE, WORDS, Refused)
 from ._opening import open, read
+from ._relations import Verdict
 from ._rows import Ending, Row, most_rows
 from ._writing import Appended, Description, append, append_into, begin, room_for, serial_number
 
-__version__ = "0.5.3"
+__version__ = "0.6.0"
 
 __all__ = [
-    "open", "read", "File", "Row", "Ending", "Parent", "Dependency", "begin", "append", "append_into", "room_for",
-    "serial_number", "Description", "Appended", "Refused", "NAMES", "WORDS", "MOST_BYTES", "most_rows", "OK", "TITLE",
-    "TAPE", "MARK_MINI", "CUT", "DIFFERS", "FORM", "LENGTH", "SHORT_ID", "REPEATED", "ROWS_FULL", "LIMIT", "NOT_CLEAN",
-    "NO_ROW", "NO_DEPENDENCY", "MARK_ZERO", "OPEN", "MULTICHUNK", "NO_ROOM",
+    "open", "read", "File", "Row", "Ending", "Parent", "Dependency", "Verdict", "begin", "append", "append_into",
+    "room_for", "serial_number", "Description", "Appended", "Refused", "NAMES", "WORDS", "MOST_BYTES", "most_rows",
+    "OK", "TITLE", "TAPE", "MARK_MINI", "CUT", "DIFFERS", "FORM", "LENGTH", "SHORT_ID", "REPEATED", "ROWS_FULL",
+    "LIMIT", "NOT_CLEAN", "NO_ROW", "NO_DEPENDENCY", "MARK_ZERO", "OPEN", "MULTICHUNK", "NO_ROOM", "NOT_RELATIONS",
+    "HEADING",
 ]

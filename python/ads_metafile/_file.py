@@ -8,10 +8,11 @@ from mmap import mmap
 from types import TracebackType
 from typing import Any, Iterator, NamedTuple, overload
 
-from . import _rows
+from . import _relations, _rows
 from ._library import MOST_BYTES, Text, accepted, call, size, text
 from ._memory import BytesLike, Lent, anonymous, view
 from ._numbers import WORDS
+from ._relations import Verdict
 from ._rows import Record, Row, most_rows
 
 _LISTING_ROOM = 10240
@@ -177,6 +178,30 @@ class File:
         answer = accepted("ads_gather", Lent(self._bytes()), self.length, row, short_id, len(short_id),
                           Lent(buffer, writable=True), room)
         return buffer[:answer.length]
+
+    # ---- relations
+
+    def relations_write(self) -> bytes:
+        r"""The contents of a relation chunk (ADS\SYS\Relations) for this file: a heading line, then a line for each
+        dependency of each row; not of a relation chunk, and not on one.
+
+        >>> import ads_metafile
+        >>> with ads_metafile.read(b"") as file:
+        ...     file.relations_write().split(b"\t")[0]
+        b'ADS Metafile Master Relation Chunk Revision 1.00'
+        """
+        return _relations.text_of(self._bytes(), sum(record[6] for record in self.records()))
+
+    def relations_check(self, row: int) -> list[Verdict]:
+        """What is said of each relation line of the row's contents, in their order; comments are passed over.
+
+        Refused with 13 where there is no such row, with 19 where it isn't a relation chunk, with 20 where its heading
+        line differs.
+        """
+        row = size(row, "row")
+        return _relations.verdicts_of(self._bytes(), row, self[row].bytes if row < self._count else 0)
+
+    # ---- the whole table
 
     def listing(self) -> str:
         """The library's own listing of the table. Of a file over 65,536 bytes it is "end 0 11" and a line feed."""

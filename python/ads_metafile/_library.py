@@ -19,7 +19,9 @@ Text: TypeAlias = str | bytes
 
 MOST_BYTES = 2**30
 SONAME = "libads.so.0"
-VERSION_NODE = "ADS_0.4"
+VERSION_NODE = "ADS_0.6"
+NEWEST = "ads_relations_write"
+"""The version that the package needs, and a function that has it."""
 _REMEDY = f"run `make` in the repository, or set ADS_LIBRARY to the path of {SONAME}"
 
 
@@ -35,6 +37,10 @@ class Reading(Structure):
 
 class Written(Structure):
     _fields_ = [("length", c_size_t), ("number", c_uint8)]
+
+
+class Counted(Structure):
+    _fields_ = [("count", c_size_t), ("number", c_uint8)]
 
 
 class ParentAnswer(Structure):
@@ -76,6 +82,8 @@ _SIGNATURES: dict[str, tuple[Any, ...]] = {
     "ads_parent": (ParentAnswer, *_LENT, c_size_t, c_size_t),
     "ads_contents": (Part, *_LENT, c_size_t),
     "ads_gather": (Written, *_LENT, c_size_t, *_TEXT, *_LENT),
+    "ads_relations_write": (Written, *_LENT, *_LENT),
+    "ads_relations_check": (Counted, *_LENT, c_size_t, *_LENT),
     "ads_listing": (Written, *_LENT, *_LENT),
     "ads_append": (Ends, *_LENT, c_size_t, DescriptionStruct, *_LENT, *_LENT, *_LENT, c_bool),
     "ads_description_new": (DescriptionStruct,),
@@ -108,7 +116,7 @@ def _check_version(library: ctypes.CDLL, path: str) -> None:
     if find is None:
         return
     find.restype, find.argtypes = c_void_p, (c_void_p, c_char_p, c_char_p)
-    if find(library._handle, b"ads_read", VERSION_NODE.encode()) is None:
+    if find(library._handle, NEWEST.encode(), VERSION_NODE.encode()) is None:
         found = "an older libads, or one without versions" if hasattr(library, "ads_read") else "no libads"
         raise ImportError(f"{path} is {found}: this package needs version {VERSION_NODE}; {_REMEDY}")
 

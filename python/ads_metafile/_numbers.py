@@ -7,6 +7,7 @@ from __future__ import annotations
 OK = 0
 TITLE, TAPE, MARK_MINI, CUT, DIFFERS, FORM, LENGTH, SHORT_ID, REPEATED = range(1, 10)
 ROWS_FULL, LIMIT, NOT_CLEAN, NO_ROW, NO_DEPENDENCY, MARK_ZERO, OPEN, MULTICHUNK, NO_ROOM = range(10, 19)
+NOT_RELATIONS, HEADING = range(19, 21)
 
 _LIST = (
     ("OK", "no refusal"),
@@ -27,7 +28,9 @@ _LIST = (
     ("MARK_ZERO", "the mark has a zero byte"),
     ("OPEN", "open under LLC or for BIN, or the mark is found before the data's end"),
     ("MULTICHUNK", "a MultiChunk can't be appended"),
-    ("NO_ROOM", "the buffer is too short for the result"),
+    ("NO_ROOM", "the buffer or list is too short for the result"),
+    ("NOT_RELATIONS", "the row isn't a relation chunk"),
+    ("HEADING", "the heading line of the relation chunk differs"),
 )
 
 NAMES: dict[int, str] = {number: name for number, (name, _) in enumerate(_LIST)}

@@ -16,6 +16,12 @@ pub struct Written {
 }
 
 #[repr(C)]
+pub struct Counted {
+    pub count: usize,
+    pub number: u8,
+}
+
+#[repr(C)]
 pub struct Parent {
     pub row: usize,
     pub found: bool,
@@ -66,6 +72,8 @@ extern "C" {
         buffer: *mut u8,
         buffer_length: usize,
     ) -> Written;
+    pub fn ads_relations_write(file: *const u8, length: usize, buffer: *mut u8, buffer_length: usize) -> Written;
+    pub fn ads_relations_check(file: *const u8, length: usize, row: usize, verdicts: *mut u32, room: usize) -> Counted;
     pub fn ads_listing(input: *const u8, length: usize, buffer: *mut u8, buffer_length: usize) -> Written;
     pub fn ads_append(
         buffer: *mut u8,

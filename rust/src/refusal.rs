@@ -81,8 +81,9 @@ refusals! {
     Limit = 11, "a byte buffer is over 2^30 bytes, or the length is over the buffer's";
     /// By [`append`](crate::append).
     NotClean = 12, "the file isn't clean";
-    /// By [`parent`](crate::parent), [`contents`](crate::contents) and [`gather`](crate::gather), and by
-    /// [`append`](crate::append) of the parents, also where one is repeated or there are over 16.
+    /// By [`parent`](crate::parent), [`contents`](crate::contents), [`gather`](crate::gather) and
+    /// [`relations_check`](crate::relations_check), and by [`append`](crate::append) of the parents, also where one is
+    /// repeated or there are over 16.
     NoRow = 13, "no such row";
     /// By [`parent`](crate::parent), of the dependency, and [`gather`](crate::gather), of the rest.
     NoDependency = 14, "no such dependency, not a MultiChunk, or the short ID is undeclared";
@@ -92,9 +93,14 @@ refusals! {
     Open = 16, "open under LLC or for BIN, or the mark is found before the data's end";
     /// By [`append`](crate::append).
     Multichunk = 17, "a MultiChunk can't be appended";
-    /// By [`begin`](crate::begin), [`append`](crate::append), [`gather`](crate::gather) and
-    /// [`listing`](crate::listing).
-    NoRoom = 18, "the buffer is too short for the result";
+    /// By [`begin`](crate::begin), [`append`](crate::append), [`gather`](crate::gather),
+    /// [`relations_write`](crate::relations_write) and [`listing`](crate::listing), and by
+    /// [`relations_check`](crate::relations_check) of its list.
+    NoRoom = 18, "the buffer or list is too short for the result";
+    /// By [`relations_check`](crate::relations_check).
+    NotRelations = 19, "the row isn't a relation chunk";
+    /// By [`relations_check`](crate::relations_check).
+    Heading = 20, "the heading line of the relation chunk differs";
 }
 
 impl Refusal {

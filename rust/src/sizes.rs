@@ -39,6 +39,30 @@ pub const fn begin_room(mark_length: usize) -> usize {
     319 + 2 * mark_length
 }
 
+/// Bytes that [`relations_write`](crate::relations_write) writes at most for a file whose rows have so many dependencies
+/// together.
+///
+/// ```
+/// let file = std::fs::read("../samples/survey.ads")?;
+/// let dependencies = ads::read_all(&file).rows.iter().map(|row| row.dependencies).sum();
+/// let mut text = vec![0; ads::relations_room(dependencies)];
+/// assert_eq!(ads::relations_write(&file, &mut text), Ok(131 + 605 * 4));
+/// # Ok::<(), std::io::Error>(())
+/// ```
+pub const fn relations_room(dependencies: usize) -> usize {
+    131 + 605 * dependencies
+}
+
+/// Verdicts that are enough for [`relations_check`](crate::relations_check) of a row with so many bytes of contents: a
+/// relation line has at least 12 bytes, and a line feed before it.
+///
+/// ```
+/// assert_eq!(ads::most_verdicts(131 + 605), 56);
+/// ```
+pub const fn most_verdicts(bytes: usize) -> usize {
+    bytes / 13
+}
+
 /// Bytes of a file of `length` bytes and the chunk that [`append`](crate::append) adds to it. [`MOST_MARK`] for the
 /// mark's length is enough for any file.
 ///

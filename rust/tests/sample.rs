@@ -1,5 +1,5 @@
 //! The sample of the specification, and one answer of each kind from every call.
-use ads::{Description, Ending, Ends, Header, Parent, Refusal, Row};
+use ads::{Description, Ending, Ends, Header, Parent, Refusal, Row, Verdict};
 
 const HEADER: Header = Header {
     strategy: b"LLC",
@@ -191,10 +191,10 @@ fn refusals() {
 fn numbers_of_refusals() {
     for number in 0..=u8::MAX {
         let refusal = Refusal::from_number(number);
-        assert_eq!(refusal.is_some(), (1..=18).contains(&number));
+        assert_eq!(refusal.is_some(), (1..=20).contains(&number));
         assert!(refusal.is_none_or(|refusal| refusal.number() == number && u8::from(refusal) == number));
     }
-    assert!(Refusal::Title < Refusal::NoRoom);
+    assert!(Refusal::Title < Refusal::Heading);
     let error: Box<dyn std::error::Error> = Refusal::NotClean.into();
     assert_eq!(error.to_string(), "the file isn't clean (12)");
 }
@@ -227,4 +227,44 @@ fn mini_chunks() {
     assert_eq!(ads::gather(file, 0, b"P1/90", &mut joined), Err(Refusal::NoDependency));
     assert_eq!(ads::gather(file, 0, b"P2/91", &mut joined[..4]), Err(Refusal::NoRoom));
     assert_eq!(&joined, b"12345\x07\x07\x07");
+}
+
+#[test]
+fn relations() {
+    let file = include_bytes!("../../samples/relations.ads");
+    let mut text = [7; 1400];
+    assert_eq!(ads::relations_write(file, &mut text), Ok(ads::relations_room(2)));
+    assert!(text[1341..].iter().all(|byte| *byte == 7));
+    assert_eq!(ads::relations_write(file, &mut text[..1340]), Err(Refusal::NoRoom));
+
+    let mut verdicts = [7; 6];
+    assert_eq!(ads::relations_check(file, 2, &mut verdicts), Ok(4));
+    assert_eq!(verdicts, [1, 1, 2, 3, 7, 7]);
+    assert_eq!(ads::relations_check(file, 2, &mut verdicts[..3]), Err(Refusal::NoRoom));
+    assert_eq!(ads::relations_check(file, 1, &mut verdicts), Err(Refusal::NotRelations));
+    assert_eq!(ads::relations_check(file, 3, &mut verdicts), Err(Refusal::NoRow));
+    let place = file.windows(13).position(|part| part == b"ADS Metafile ").unwrap();
+    let mut renamed = *file;
+    renamed[place] = b'a';
+    assert_eq!(ads::relations_check(&renamed, 2, &mut verdicts), Err(Refusal::Heading));
+    assert_eq!(verdicts, [1, 1, 2, 3, 7, 7]);
+    for number in 0..9 {
+        let verdict = Verdict::from_number(number);
+        assert_eq!(verdict.map(Verdict::number), (1..=3).contains(&number).then_some(number));
+    }
+}
+
+/// Appended to the file that it was written for, each line of the text is declared.
+#[test]
+fn relations_appended() {
+    let (mut buffer, length) = sample();
+    let ends = ads::append(&mut buffer, length, described(SECOND), &[0], b"", b"", false).unwrap();
+    let mut text = [0; ads::relations_room(1)];
+    assert_eq!(ads::relations_write(&buffer[..ends.third], &mut text), Ok(text.len()));
+    let serial = b"#20240229123456789SURVEYDESK0100044003";
+    let relations = described(serial).sub_format(b"ADS\\SYS\\Relations");
+    let ends = ads::append(&mut buffer, ends.third, relations, &[], b"", &text, false).unwrap();
+    let mut verdicts = [0; 1];
+    assert_eq!(ads::relations_check(&buffer[..ends.third], 2, &mut verdicts), Ok(1));
+    assert_eq!(Verdict::from_number(verdicts[0]), Some(Verdict::Declared));
 }

@@ -37,6 +37,10 @@ SIZE(ads_written, 16);
 PLACE(ads_written, length, 0);
 PLACE(ads_written, number, 8);
 
+SIZE(ads_counted, 16);
+PLACE(ads_counted, count, 0);
+PLACE(ads_counted, number, 8);
+
 SIZE(ads_parent_answer, 16);
 PLACE(ads_parent_answer, row, 0);
 PLACE(ads_parent_answer, found, 8);
@@ -81,7 +85,10 @@ static_assert(sizeof(((ads_row *)0)->serial) == ADS_SERIAL_BYTES, "ADS_SERIAL_BY
 static_assert(ADS_SERIAL_COMPARED == 35, "ADS_SERIAL_COMPARED");
 static_assert(sizeof(((ads_row *)0)->ending) == 1, "ending");
 static_assert(ADS_COUNTED == 0 && ADS_FOUND == 1 && ADS_BY_MINI_CHUNKS == 2, "endings");
+static_assert(ADS_DECLARED == 1 && ADS_UNDECLARED == 2 && ADS_MALFORMED == 3, "verdicts");
 static_assert(ADS_MOST_ROWS(0) == 1 && ADS_MOST_ROWS(319 + 856) == 2, "ADS_MOST_ROWS");
 static_assert(ADS_BEGIN_ROOM(0) == 319 && ADS_BEGIN_ROOM(90) == 499, "ADS_BEGIN_ROOM");
 static_assert(ADS_APPEND_ROOM(319, 0, 0, 0, 3) == 1178, "ADS_APPEND_ROOM");
 static_assert(ADS_APPEND_ROOM(0, 1, 1, 1, 1) == 856 + 2 + 344 + 1 + 1, "ADS_APPEND_ROOM");
+static_assert(ADS_RELATIONS_ROOM(0) == 131 && ADS_RELATIONS_ROOM(1 + 1) == 131 + 605 + 605, "ADS_RELATIONS_ROOM");
+static_assert(ADS_MOST_VERDICTS(130 + 13) >= 1 && ADS_MOST_VERDICTS(12) == 0, "ADS_MOST_VERDICTS");

@@ -27,7 +27,7 @@ NAMES = {
     b'"\t".ads': '"\\"\\t\\".ads"',
     b"%s{}.ads": "%s{}.ads",
 }
-SUBCOMMANDS = ["list", "check", "contents", "parents", "gather", "fields", "begin", "append", "cut-back"]
+SUBCOMMANDS = ["list", "check", "contents", "parents", "gather", "relations", "fields", "begin", "append", "cut-back"]
 
 
 class Names(CommandTest):

@@ -69,7 +69,7 @@ def tables() -> list[Table]:
     return found
 
 
-SERIAL, INTEGRITY, HEADER, CHUNK, DEPENDENCY, MULTI, TYPE, MINI = tables()
+SERIAL, INTEGRITY, HEADER, CHUNK, DEPENDENCY, MULTI, TYPE, MINI, RELATION = tables()
 
 
 def quoted(cell: str) -> bytes | None:
@@ -85,7 +85,7 @@ def differences(table: Table, file: bytes, place: int, values: Values, sampled: 
     for field in table.fields:
         offset, width = value_of(field.offset, values), value_of(field.bytes, values)
         found = file[place + offset:place + offset + width]
-        wanted = {"LF": b"\n", "mark": mark}.get(field.what, quoted(field.what))
+        wanted = {"LF": b"\n", "tab": b"\t", "mark": mark}.get(field.what, quoted(field.what))
         if offset != behind:
             yield f"{field}: the field before it ends at {behind}"
         if len(found) != width or (wanted is not None and found != wanted):
@@ -164,7 +164,7 @@ class Tables(unittest.TestCase):
 
     def test_each_table_has_its_bytes(self) -> None:
         long = [(SERIAL, 38), (INTEGRITY, 254), (part(HEADER, -1), 499), (CHUNK, 859), (DEPENDENCY, 344),
-                (part(MULTI, 6), 65), (TYPE, 518), (MINI, 37)]
+                (part(MULTI, 6), 65), (TYPE, 518), (MINI, 37), (RELATION, 605)]
         for table, end in long:
             last = table.fields[-1]
             self.assertEqual(value_of(last.offset, table.values) + value_of(last.bytes, table.values), end)
@@ -193,10 +193,17 @@ class Numbers(unittest.TestCase):
         listed = [row.split("\t") for row in rows if not row.startswith("0\t")]
         here = [cells(line)[:3] for line in FORMAT.splitlines() if re.match(r"\| \d+ \| [A-Z_]+ \|", line)]
         self.assertEqual(here, listed)
-        self.assertEqual([row[0] for row in here], [str(number) for number in range(1, 19)])
+        self.assertEqual([row[0] for row in here], [str(number) for number in range(1, 21)])
 
 
 class WorkedExamples(unittest.TestCase):
+    def test_the_heading_of_a_relation_chunk(self) -> None:
+        sentence = WORDS.split("The first line is the heading, 131 bytes with its LF: the texts ")[1].split(". A line")[0]
+        heading = "\t".join(re.findall(r"`([^`]+)`", sentence)) + "\n"
+        self.assertEqual((len(heading), heading.count("\t")), (131, 4))
+        file = (ROOT / "samples" / RELATION.file).read_bytes()
+        self.assertIn(b"\n" + heading.encode("ascii"), file[:RELATION.place])
+
     def test_the_check_of_a_serial_number(self) -> None:
         sentence = r"`(#[^`]{34})` adds up to (\d+), (\d+) = (\d+) × 256 \+ (\d+), so the check is `(\d{3})`"
         example = re.search(sentence, WORDS)

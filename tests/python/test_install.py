@@ -249,7 +249,7 @@ class Linked(Case):
 
     def test_programs_and_libraries_of_before_0_4(self) -> None:
         """A program that was linked to the library of before runs with this one. One that is linked to this one doesn't
-        run with that of before, which writes no ending into a row."""
+        run with that of before, which writes no ending into a row, and knows of no relations."""
         before, now = self.folder / "before", self.checkout / "target/lib"
         before.mkdir()
         (before / "ads.map").write_text("ADS_0.2 { global: ads_*; local: *; };")
@@ -262,19 +262,25 @@ class Linked(Case):
         for program in ("linked-before", "linked-lib"):
             printed = self.run_quietly(self.folder / program, LD_LIBRARY_PATH=str(now)).stdout
             self.assertIn("\n1 rows, clean\n", printed)
-        refused = self.run_quietly(self.folder / "linked-lib", check=False, LD_LIBRARY_PATH=str(before))
-        self.assertNotEqual(refused.returncode, 0)
-        self.assertIn("version `ADS_0.4' not found", refused.stderr)
+        self.run_quietly("gcc", "-Iinclude", ROOT / "tests/c/relations.c", now / "libads.so.0",
+                         "-o", self.folder / "relations")
+        for program, node in (("linked-lib", "ADS_0.4"), ("relations", "ADS_0.6")):
+            refused = self.run_quietly(self.folder / program, check=False, LD_LIBRARY_PATH=str(before))
+            self.assertNotEqual(refused.returncode, 0)
+            self.assertIn(f"version `{node}' not found", refused.stderr)
 
     def test_names_of_the_shared_library(self) -> None:
-        """The functions of the header are visible, ads_read under two versions, and nothing else is."""
+        """The functions of the header are visible, ads_read under two versions, relations under a later one; nothing
+        else is."""
         library = self.checkout / "target/lib/libads.so.0"
         listed = self.run_quietly("nm", "-D", "--defined-only", library).stdout.split("\n")
         visible = {line.split()[-1] for line in listed if line and line.split()[1] != "A"}
         declared = set(re.findall(r"^(?!static)\w+ (ads_\w+)\(", HEADER, re.MULTILINE))
-        named = {f"{name}@@ADS_0.2" for name in declared - {"ads_read"}}
+        relations = {"ads_relations_write", "ads_relations_check"}
+        named = {f"{name}@@ADS_0.2" for name in declared - relations - {"ads_read"}}
+        named |= {f"{name}@@ADS_0.6" for name in relations}
         self.assertEqual(visible, named | {"ads_read@@ADS_0.4", "ads_read@ADS_0.2"})
-        self.assertEqual(len(declared), 21)
+        self.assertEqual(len(declared), 23)
         dynamic = self.run_quietly("readelf", "-dlW", library).stdout
         self.assertIn("Library soname: [libads.so.0]", dynamic)
         self.assertRegex(dynamic, r"GNU_STACK .* RW ")

@@ -1,6 +1,6 @@
 """docs/numbers.tsv is the one list of numbers, names and words. Everything that repeats it is held equal to it here.
 
-The same holds for the version, the sizes and the endings, which include/ads.h has.
+The same holds for the version, the sizes, the endings and the verdicts, which include/ads.h has.
 """
 from __future__ import annotations
 
@@ -10,6 +10,7 @@ import sys
 import tempfile
 import tomllib
 import unittest
+from enum import Enum
 from pathlib import Path
 
 ROOT = Path(__file__).resolve().parents[2]
@@ -51,7 +52,7 @@ def snake(name: str) -> str:
 
 
 def enums() -> list[list[tuple[str, int]]]:
-    """The enums of include/ads.h in order, names without ADS_: the numbers, the endings."""
+    """The enums of include/ads.h in order, names without ADS_: the numbers, the endings, the verdicts."""
     bodies = re.findall(r"^enum \{\n(.*?)^\};", text("include/ads.h"), re.MULTILINE | re.DOTALL)
     members = [re.findall(r"^    ADS_(\w+) = (\d+),? +/\*", body, re.MULTILINE) for body in bodies]
     return [[(name, int(value)) for name, value in each] for each in members]
@@ -59,8 +60,8 @@ def enums() -> list[list[tuple[str, int]]]:
 
 class List(unittest.TestCase):
     def test_order(self) -> None:
-        self.assertEqual(list(listed()), list(range(19)))
-        self.assertEqual(len({name for name, _ in listed().values()}), 19)
+        self.assertEqual(list(listed()), list(range(21)))
+        self.assertEqual(len({name for name, _ in listed().values()}), 21)
 
     def test_words_fit_into_a_message(self) -> None:
         for name, words in listed().values():
@@ -72,7 +73,7 @@ class List(unittest.TestCase):
 
 class Header(unittest.TestCase):
     def test_enum(self) -> None:
-        self.assertEqual(len(enums()), 2)
+        self.assertEqual(len(enums()), 3)
         self.assertEqual(enums()[0], [(name, number) for number, (name, _) in listed().items()])
 
     def test_words_and_version(self) -> None:
@@ -119,23 +120,36 @@ class Others(unittest.TestCase):
                          [(number, name) for number, (name, _) in refusals().items()])
 
 
-class Endings(unittest.TestCase):
-    def test_equal(self) -> None:
-        """Names and values in C, Rust, Python and the proved crate, words in Rust, Python and FORMAT."""
+class Words(unittest.TestCase):
+    """Names and values in C, Rust and Python, words in Rust, Python and FORMAT."""
+
+    def check(self, named: list[tuple[str, int]], python: type[Enum], rust: str, heading: str) -> None:
+        self.assertEqual([(each.name, each.value) for each in python], named)
+        found = re.findall(r"^    (\w+) = (\d+),$", text(rust), re.MULTILINE)
+        self.assertEqual([(snake(name), int(value)) for name, value in found], named)
+        said = re.findall(rf'^            {python.__name__}::(\w+) => "(.*)",$', text(rust), re.MULTILINE)
+        self.assertEqual([(snake(name), words) for name, words in said], [(each.name, str(each)) for each in python])
+        section = text("docs/FORMAT.md").split(f"\n## {heading}\n")[1].split("\n## ")[0]
+        explained = re.findall(r"\*\*([a-z -]+)\*\* \((\d)\)", section)
+        self.assertEqual(sorted((int(value), words) for words, value in explained),
+                         [(each.value, str(each)) for each in python])
+
+    def test_endings(self) -> None:
+        """In the proved crate, too."""
         from ads_metafile import Ending
 
         endings = enums()[1]
         self.assertEqual(endings, [("COUNTED", 0), ("FOUND", 1), ("BY_MINI_CHUNKS", 2)])
-        self.assertEqual([(each.name, each.value) for each in Ending], endings)
-        rust = re.findall(r"^    (\w+) = (\d+),$", text("rust/src/answers.rs"), re.MULTILINE)
-        self.assertEqual([(snake(name), int(value)) for name, value in rust], endings)
+        self.check(endings, Ending, "rust/src/answers.rs", "Reading")
         metafile = re.findall(r"^pub const (\w+): u8 = (\d+);$", text("crates/metafile/src/endings.rt"), re.MULTILINE)
         self.assertEqual([(name, int(value)) for name, value in metafile], endings)
-        words = re.findall(r'^            Ending::(\w+) => "(.*)",$', text("rust/src/answers.rs"), re.MULTILINE)
-        self.assertEqual([(snake(name), said) for name, said in words], [(each.name, str(each)) for each in Ending])
-        explained = re.findall(r"\*\*([a-z -]+)\*\* \((\d)\)", text("docs/FORMAT.md"))
-        self.assertEqual(sorted((int(value), said) for said, value in explained),
-                         [(each.value, str(each)) for each in Ending])
+
+    def test_verdicts(self) -> None:
+        from ads_metafile import Verdict
+
+        verdicts = enums()[2]
+        self.assertEqual(verdicts, [("DECLARED", 1), ("UNDECLARED", 2), ("MALFORMED", 3)])
+        self.check(verdicts, Verdict, "rust/src/relations.rs", "Relations")
 
 
 class Sizes(unittest.TestCase):

@@ -13,6 +13,7 @@ from ads_metafile import Refused
 
 STRANGE: tuple[Any, ...] = (None, True, -1, 0, 1, 2**63, 2**64 - 1, 2**64, 10**40, 1.5, "", "P2/91", "\0", "ü", b"",
                             b"\xff" * 99, bytearray(b"x"), memoryview(b"abcdef")[::2], [], [-1], (1, 2), {}, object())
+FILES = ("survey.ads", "relations.ads")
 EXPECTED = (Refused, TypeError, ValueError, BufferError, LookupError)
 
 
@@ -36,20 +37,23 @@ class Random(unittest.TestCase):
             self.assertTrue(0 <= file.stop <= len(data))
             for row in range(len(file) + 2):
                 for ask in (lambda: file.parents(row), lambda: file.parent(row, self.random.randrange(3)),
-                            lambda: bytes(file.contents(row)), lambda: file.gather(row, "P2/91")):
+                            lambda: bytes(file.contents(row)), lambda: file.gather(row, "P2/91"),
+                            lambda: file.relations_check(row)):
                     try:
                         ask()
                     except Refused as refused:
-                        self.assertIn(refused.number, (13, 14))
+                        self.assertIn(refused.number, (13, 14, 19, 20))
             for row in file:
                 self.assertEqual(bytes(row.contents), bytes(file.contents(row.index)))
                 self.assertTrue(file.stop >= row.end > row.contents_place > row.place > 0)
             self.assertIn("end ", file.listing())
+            self.assertEqual(len(file.relations_write()) % 605, 131)
             self.assertEqual(file.mark is None, file.stop == 0)
             return file.number
 
     def test_damaged_files(self) -> None:
-        files = [path.read_bytes() for path in (SAMPLE, SAMPLE_MULTI, SAMPLE_OPEN, REPOSITORY / "samples/survey.ads")]
+        paths = (SAMPLE, SAMPLE_MULTI, SAMPLE_OPEN, *(REPOSITORY / "samples" / name for name in FILES))
+        files = [path.read_bytes() for path in paths]
         numbers = {self.use(self.damaged(self.random.choice(files))) for _ in range(400)}
         self.assertLessEqual({0, 1, 4, 5, 6}, numbers)
 
@@ -64,7 +68,8 @@ class Random(unittest.TestCase):
             "getitem": lambda each: file[each], "by_serial": file.by_serial, "parents": file.parents,
             "row": lambda each: file.parent(each, 0), "dependency": lambda each: file.parent(0, each),
             "contents": file.contents, "gather": lambda each: file.gather(each, "P2/91"),
-            "short_id": lambda each: file.gather(0, each), "read": lambda each: ads_metafile.read(each).listing(),
+            "relations": file.relations_check, "short_id": lambda each: file.gather(0, each),
+            "read": lambda each: ads_metafile.read(each).listing(),
             "strategy": lambda each: ads_metafile.begin(strategy=each, serial=support.serial(1), recorded="20240229",
                                                         recorder=each, written="20240229", writer=each, mark=each),
             "append": lambda each: ads_metafile.append(each, support.description()),

@@ -13,7 +13,7 @@ from pathlib import Path
 from support import LIBRARY, REPOSITORY
 
 README = (REPOSITORY / "README.md").read_text(encoding="utf-8")
-MOST_LINES = 120
+MOST_LINES = 125
 AROUND = """#include <stdio.h>
 {include}
 static uint8_t file[4096];
@@ -57,12 +57,13 @@ class Lines(unittest.TestCase):
         shutil.copy(REPOSITORY / "samples/survey.ads", self.folder)
         path = f"{self.folder}/bin:{os.environ['PATH']}"
         said = [self.run_in(self.folder, "sh", "-c", line, PATH=path) for line in code("The command")]
-        self.assertEqual(len(said), 9)
+        self.assertEqual(len(said), 10)
         self.assertIn("4 chunks; clean: all 7,214 bytes read", said[0])
         self.assertEqual(said[1], "survey.ads: clean, 4 chunks, all sums good\n")
         self.assertEqual((self.folder / "depths.txt").read_text(), "12.5\n12.7\n")
-        self.assertRegex(said[7], r"^row 0 appended: 319 to 1,223, serial #")
-        self.assertEqual(said[8], "new.ads: clean, 1 chunk; nothing is to be cut\n")
+        self.assertEqual((self.folder / "deps.tsv").read_bytes().count(b"\nADS relation\t"), 4)
+        self.assertRegex(said[8], r"^row 0 appended: 319 to 1,223, serial #")
+        self.assertEqual(said[9], "new.ads: clean, 1 chunk; nothing is to be cut\n")
 
     def test_python(self) -> None:
         program = "\n".join(code("Python"))

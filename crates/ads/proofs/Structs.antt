@@ -1,7 +1,7 @@
 -- The structs that the exports answer, from the calls' own answers. A struct tells a refusal by its number, so a refused
 -- call's number may not be 0.
 --     numbered ..-numbered             a refused call's number is not 0
---     written-done written-refused     the struct for a length, and for a number; so for the parent and for the ends
+--     written-done written-refused     the struct for a length, and for a number; so for the count, the parent and the ends
 -- Assumes nothing.
 use Prim.Native.Nat.{ℕ, zero, suc}
 use mathlib.Core.Bool.{Bool, true, false, cond}
@@ -16,12 +16,14 @@ use Rattle.metafile.specs.Begin.{BeginGiven, begin}
 use Rattle.metafile.specs.Append.{Given, append}
 use Rattle.metafile.specs.Reading.{rowsOf}
 use Rattle.metafile.specs.Calls.{parentTests, parentRow, agree, parent, gather}
+use Rattle.metafile.specs.Relations.{relationsWrite, relationsCheck}
 use Rattle.laws.proofs.First.{untrue}
 use Rattle.listing_text.specs.Text.{listingOutcome}
 use Rattle.ads.specs.declared.answers.Written.{Written}
+use Rattle.ads.specs.declared.answers.Counted.{Counted}
 use Rattle.ads.specs.declared.answers.Parent.{Parent}
 use Rattle.ads.specs.declared.answers.Ends.{Ends}
-use Rattle.ads.specs.Answers.{writtenAnswer, writtenAlone, parentAnswer, parentAlone, endsAnswer, endsAlone}
+use Rattle.ads.specs.Answers.{writtenAnswer, writtenAlone, countedAnswer, countedAlone, parentAnswer, parentAlone, endsAnswer, endsAlone}
 
 -- ---- a refused call's number is not 0
 
@@ -58,6 +60,14 @@ pub gather-numbered : (file : List ℕ) (k : ℕ) (id buffer : List ℕ) (n : �
 unfolding gather isResult
 gather-numbered file k id buffer n after e = writes-numbered _ buffer _ refl n after e
 
+pub relations-write-numbered : (file buffer : List ℕ) (n : ℕ) (after : List ℕ) → outcome (refused n) after ≡ relationsWrite file buffer → n ≡ 0 → ⊥
+unfolding relationsWrite isResult
+relations-write-numbered file buffer n after e = writes-numbered _ buffer _ refl n after e
+
+pub relations-check-numbered : (file : List ℕ) (k : ℕ) (list : List ℕ) (n : ℕ) (after : List ℕ) → outcome (refused n) after ≡ relationsCheck file k list → n ≡ 0 → ⊥
+unfolding relationsCheck isResult
+relations-check-numbered file k list n after e = writes-numbered _ list _ refl n after e
+
 pub listing-numbered : (input buffer : List ℕ) (n : ℕ) (after : List ℕ) → outcome (refused n) after ≡ listingOutcome input buffer → n ≡ 0 → ⊥
 unfolding listingOutcome isResult
 listing-numbered input buffer n after e = writes-numbered _ buffer _ refl n after e
@@ -88,6 +98,17 @@ module _ (after : List ℕ) (o : Outcome) where
   unfolding writtenAnswer choose
   written-refused zero h e = absurd (h refl)
   written-refused (suc n) h e = (e, refl)
+
+  pub counted-done : (k : ℕ) → outcome (result (k ∷ [])) after ≡ o
+      → let w : Counted = record { count = k; number = 0 } in (outcome (countedAnswer w) after ≡ o) × (w ≡ choose 0 w countedAlone)
+  unfolding countedAnswer choose
+  counted-done k e = (e, refl)
+
+  pub counted-refused : (n : ℕ) → (n ≡ 0 → ⊥) → outcome (refused n) after ≡ o
+      → (outcome (countedAnswer (countedAlone n)) after ≡ o) × (countedAlone n ≡ choose n (countedAlone n) countedAlone)
+  unfolding countedAnswer choose
+  counted-refused zero h e = absurd (h refl)
+  counted-refused (suc n) h e = (e, refl)
 
   pub ends-done : (a b c : ℕ) → outcome (result (a ∷ b ∷ c ∷ [])) after ≡ o
       → let w : Ends = record { first = a; second = b; third = c; number = 0 } in (outcome (endsAnswer w) after ≡ o) × (w ≡ choose 0 w endsAlone)

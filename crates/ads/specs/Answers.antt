@@ -6,15 +6,23 @@ use mathlib.Core.List.{List, [], _∷_}
 use Rattle.metafile.specs.Bytes.{choose}
 use Rattle.metafile.specs.Answers.{Answer, result, refused, flag}
 use Rattle.ads.specs.declared.answers.Written.{Written}
+use Rattle.ads.specs.declared.answers.Counted.{Counted}
 use Rattle.ads.specs.declared.answers.Parent.{Parent}
 use Rattle.ads.specs.declared.answers.Ends.{Ends}
 
--- begin, gather, listing: the length
+-- begin, gather, the writer of relations, listing: the length
 unfoldable pub writtenAnswer : Written → Answer
 writtenAnswer w = choose (w .number) (result (w .length ∷ [])) (λ n. refused n)
 
 abbrev pub writtenAlone : ℕ → Written
 writtenAlone n = record { length = 0; number = n }
+
+-- the check of relations: how many verdicts
+unfoldable pub countedAnswer : Counted → Answer
+countedAnswer c = choose (c .number) (result (c .count ∷ [])) (λ n. refused n)
+
+abbrev pub countedAlone : ℕ → Counted
+countedAlone n = record { count = 0; number = n }
 
 -- "the row with that serial and whether the sub-formats agree, or missing"
 unfoldable pub parentAnswer : Parent → Answer

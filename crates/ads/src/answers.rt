@@ -7,6 +7,13 @@ pub struct Written {
     pub number: u8,
 }
 
+// ads_counted: how many entries of a list were written.
+#[repr(C)]
+pub struct Counted {
+    pub count: usize,
+    pub number: u8,
+}
+
 // ads_parent_answer: the row, if one was found, and whether the sub-formats agree.
 #[repr(C)]
 pub struct Parent {

@@ -8,12 +8,14 @@ ghost use Rattle.metafile.specs.Answers.{outcome};
 ghost use Rattle.metafile.specs.Begin.{begin};
 ghost use Rattle.metafile.specs.Append.{append};
 ghost use Rattle.metafile.specs.Calls.{read, parent, contents, gather};
+ghost use Rattle.metafile.specs.Relations.{relationsWrite, relationsCheck};
 ghost use Rattle.begin.specs.Given.{givenOf as begun};
 ghost use Rattle.append.specs.Given.{givenOf};
 ghost use Rattle.contents.specs.Outcome.{partOf, partOutcome};
 ghost use Rattle.read.specs.State.{readOutcome};
 ghost use Rattle.listing_text.specs.Text.{listingOutcome};
-ghost use Rattle.ads.specs.Answers.{writtenAnswer, writtenAlone, parentAnswer, parentAlone, endsAnswer, endsAlone};
+ghost use Rattle.ads.specs.Answers.{writtenAnswer, writtenAlone, countedAnswer, countedAlone, parentAnswer, parentAlone, endsAnswer, endsAlone};
+use crate::answers::Counted;
 use crate::answers::Ends;
 use crate::answers::Parent;
 use crate::answers::Written;
@@ -25,6 +27,8 @@ use metafile::Description;
 use metafile::GatherAnswer;
 use metafile::ParentAnswer;
 use metafile::ReadAnswer;
+use metafile::RelationsCheckAnswer;
+use metafile::RelationsWriteAnswer;
 use metafile::Row;
 use metafile::clean::clean_at;
 
@@ -160,6 +164,30 @@ pub extern "C" fn ads_gather(file: &[u8], row: usize, id: &[u8], buffer: &mut [u
     match answer {
         GatherAnswer::Joined(length) => Written { length, number: 0 },
         GatherAnswer::Refused(number) => Written { length: 0, number },
+    }
+}
+
+#[no_mangle]
+pub extern "C" fn ads_relations_write(file: &[u8], buffer: &mut [u8]) -> Written
+    ensures answer { λ r. ⌜ outcome (writtenAnswer r) (now (buffer .exit)) ≡ relationsWrite (now (file .entry)) (now (buffer .entry)) ⌝ }
+    ensures alone { λ r. ⌜ r ≡ choose (r .number) r writtenAlone ⌝ }
+{
+    let answer = relations_write::write(file, buffer);
+    match answer {
+        RelationsWriteAnswer::Written(length) => Written { length, number: 0 },
+        RelationsWriteAnswer::Refused(number) => Written { length: 0, number },
+    }
+}
+
+#[no_mangle]
+pub extern "C" fn ads_relations_check(file: &[u8], row: usize, verdicts: &mut [u32]) -> Counted
+    ensures answer { λ r. ⌜ outcome (countedAnswer r) (now (verdicts .exit)) ≡ relationsCheck (now (file .entry)) row (now (verdicts .entry)) ⌝ }
+    ensures alone { λ r. ⌜ r ≡ choose (r .number) r countedAlone ⌝ }
+{
+    let answer = relations_check::check(file, row, verdicts);
+    match answer {
+        RelationsCheckAnswer::Checked(count) => Counted { count, number: 0 },
+        RelationsCheckAnswer::Refused(number) => Counted { count: 0, number },
     }
 }
 

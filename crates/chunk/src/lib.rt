@@ -17,6 +17,7 @@ mod rows;
 
 pub use closing::closing_fault;
 pub use closing::sum_good;
+pub use header::dependencies;
 pub use header::is_multi_name;
 pub use parts::Layout;
 pub use rows::chunk_serial;

@@ -9,6 +9,7 @@
 --     Enough     how many rows are enough
 --     File       the file header, and a reading of the whole file
 --     Places     every row is that of a whole chunk at its place
+--     Dependencies   the values of a whole chunk's dependencies, and the chunk of a row
 --     Endings    every row says how its chunk's end was found
 --     Serials    the serials in rows are distinct; looking one up
 pub mod Types
@@ -21,5 +22,6 @@ pub mod Rows
 pub mod Enough
 pub mod File
 pub mod Places
+pub mod Dependencies
 pub mod Endings
 pub mod Serials

@@ -134,7 +134,7 @@ row-inside file k h =
 -- ---- what is copied from a whole chunk
 
 -- a field that passes does so by itself
-taken-alone : (n : ℕ) (own : List ℕ → ℕ) (s : List ℕ) → fieldFault n own s ≡ 0 → (length (take n s) ≡ n) × (fieldFault n own (take n s) ≡ 0)
+pub taken-alone : (n : ℕ) (own : List ℕ → ℕ) (s : List ℕ) → fieldFault n own s ≡ 0 → (length (take n s) ≡ n) × (fieldFault n own (take n s) ≡ 0)
 taken-alone n own s e =
     let long = field-enough n own s e in
     let same-length : length (take n s) ≡ n = length-take-le n s long in

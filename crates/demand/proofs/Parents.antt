@@ -2,12 +2,13 @@
 -- where they stood. So an old dependency that was found is found at the same row with the same agreement, and one that
 -- was missing is found, if at all, at a row behind the old ones. Row serials are distinct, so each dependency of the
 -- new row is answered with the row named as its parent.
+--     row-same chunk-same                    old rows and their chunks
 --     found-kept missing-late missing-kept   old dependencies
---     new-parents                            the new row's
+--     new-last new-parents                   the new row, and its dependencies
 -- Assumes nothing.
 use Prim.Native.Nat.{ℕ, zero, suc, _^_, _≤_, _<_}
 use mathlib.Core.Bool.{true}
-use mathlib.Core.Path.{_≡_, sym, ap, _∙_}
+use mathlib.Core.Path.{_≡_, sym, _∙_}
 use mathlib.Core.Logic.{_⊎_, inl, inr}
 use mathlib.Core.List.{List, [], _∷_, _++_}
 use native.Mathlib.Omega.{arith}
@@ -17,7 +18,7 @@ use lib.Seq.{drop-append-le, drop-append-seam, getD-append-seam}
 use borrow.Author.Tests.{ltb-true}
 use Rattle.metafile.specs.declared.Row.{Row}
 use Rattle.metafile.specs.Header.{isLLC, markOf}
-use Rattle.metafile.specs.Chunk.{dependencies, dependencySerialOf, rowAt}
+use Rattle.metafile.specs.Chunk.{dependencySerialOf}
 use Rattle.metafile.specs.Reading.{rowsOf}
 use Rattle.metafile.specs.Answers.{result, flag}
 use Rattle.metafile.specs.Append.{Given, rowNo, subFormatOf, allBelow}
@@ -25,9 +26,8 @@ use Rattle.metafile.specs.Calls.{rowWith, chunkOf, parentRow, agree, parent}
 use Rattle.metafile.specs.Demand.{newRow}
 use Rattle.laws.proofs.First.{and-both}
 use Rattle.laws.proofs.Lists.{same-refl}
-use Rattle.chunk_laws.proofs.Chunk.{Whole}
 use Rattle.chunk_laws.proofs.Local.{subFormat-local, dependencySerial-local, dependencySubFormat-local}
-use Rattle.chunk_laws.proofs.Places.{row-placed, placed-end, placed-least}
+use Rattle.chunk_laws.proofs.Dependencies.{chunk-whole, place-inside, j-there}
 use Rattle.chunk_laws.proofs.Serials.{file-fresh, rowWith-found, rowWith-missing, rowWith-self}
 use Rattle.written_laws.specs.Taken.{Taken}
 use Rattle.written_laws.proofs.Stretches.{chunkBytes}
@@ -42,38 +42,25 @@ rowNo-append rs us k h = List·getD-append rs us _ k h
 
 module _ (old t : List ℕ) (us : List Row) (is : rowsOf (old ++ t) ≡ rowsOf old ++ us) (small : length (old ++ t) ≤ 2 ^ 30) where
   module _ (k : ℕ) (h : k < length (rowsOf old)) where
-    row-same : rowNo (rowsOf (old ++ t)) k ≡ rowNo (rowsOf old) k
+    pub row-same : rowNo (rowsOf (old ++ t)) k ≡ rowNo (rowsOf old) k
     row-same = rw is (rowNo-append (rowsOf old) us k h)
 
-    place-inside : rowNo (rowsOf old) k .place ≤ length old
-    place-inside =
-        let w = row-placed old k h in
-        omega (arith, placed-least (isLLC old) (markOf old) old _ w, placed-end (isLLC old) (markOf old) old _ w)
-
-    chunk-same : chunkOf (old ++ t) k ≡ chunkOf old k ++ t
+    pub chunk-same : chunkOf (old ++ t) k ≡ chunkOf old k ++ t
     unfolding chunkOf
-    chunk-same = rw row-same (drop-append-le (rowNo (rowsOf old) k .place) old t place-inside)
-
-    chunk-whole : Whole (isLLC old) (markOf old) (chunkOf old k)
-    unfolding chunkOf
-    chunk-whole = row-placed old k h .chunk
+    chunk-same = rw row-same (drop-append-le (rowNo (rowsOf old) k .place) old t (place-inside old k h))
 
     subFormat-same : subFormatOf (old ++ t) (rowNo (rowsOf (old ++ t)) k) ≡ subFormatOf old (rowNo (rowsOf old) k)
     unfolding subFormatOf chunkOf
     subFormat-same =
-        rw (row-same, drop-append-le (rowNo (rowsOf old) k .place) old t place-inside) (subFormat-local (isLLC old) (markOf old) (chunkOf old k) t chunk-whole)
-
-    dependencies-are : rowNo (rowsOf old) k .dependencies ≡ dependencies (chunkOf old k)
-    unfolding chunkOf rowAt
-    dependencies-are = ap (λ (x : Row). x .dependencies) (row-placed old k h .row)
+        rw (row-same, drop-append-le (rowNo (rowsOf old) k .place) old t (place-inside old k h))
+        (subFormat-local (isLLC old) (markOf old) (chunkOf old k) t (chunk-whole old k h))
 
     module _ (j : ℕ) (d : j < rowNo (rowsOf old) k .dependencies) where
-      j-there : j < dependencies (chunkOf old k)
-      j-there = omega (arith, dependencies-are)
-
       row-in-more : parentRow (old ++ t) k j ≡ rowWith (dependencySerialOf j (chunkOf old k)) (rowsOf old ++ us)
       unfolding parentRow
-      row-in-more = rw (chunk-same, is, dependencySerial-local (isLLC old) (markOf old) (chunkOf old k) t chunk-whole j j-there)
+      row-in-more =
+          let w = chunk-whole old k h in
+          rw (chunk-same, is, dependencySerial-local (isLLC old) (markOf old) (chunkOf old k) t w j (j-there old k h j d))
 
   asked-more : (k j : ℕ) → Asked old k j → Asked (old ++ t) k j
   asked-more k j q =
@@ -96,12 +83,12 @@ module _ (old t : List ℕ) (us : List Row) (is : rowsOf (old ++ t) ≡ rowsOf o
     agree-kept : parentRow old k j < length (rowsOf old) → agree (old ++ t) k j ≡ agree old k j
     unfolding agree
     agree-kept f =
-        let w = chunk-whole k (q .row-there) in
+        let w = chunk-whole old k (q .row-there) in
         rw (
           row-kept f,
           subFormat-same (parentRow old k j) f,
           chunk-same k (q .row-there),
-          dependencySubFormat-local (isLLC old) (markOf old) (chunkOf old k) t w j (j-there k (q .row-there) j (q .dependency-there)),
+          dependencySubFormat-local (isLLC old) (markOf old) (chunkOf old k) t w j (j-there old k (q .row-there) j (q .dependency-there)),
         )
 
     was-missing : answerTo old k j ≡ result [] → length (rowsOf old) ≤ parentRow old k j
@@ -155,7 +142,7 @@ below-at n (k ∷ ks) (suc j) h e = below-at n ks j (omega arith) (and-both (ltb
 
 module _ (old : List ℕ) (g : Given) (a : Taken old g) (e₁ e₃ : ℕ) (is : rowsOf (old ++ chunkBytes old g) ≡ rowsOf old ++ newRow old g e₁ e₃ ∷ [])
     (small : length (old ++ chunkBytes old g) ≤ 2 ^ 30) where
-  new-last : rowNo (rowsOf (old ++ chunkBytes old g)) (length (rowsOf old)) ≡ newRow old g e₁ e₃
+  pub new-last : rowNo (rowsOf (old ++ chunkBytes old g)) (length (rowsOf old)) ≡ newRow old g e₁ e₃
   unfolding rowNo
   new-last = rw is (getD-append-seam (rowsOf old) (newRow old g e₁ e₃) [] _)
 

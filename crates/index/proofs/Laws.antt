@@ -1,7 +1,11 @@
 -- What an index holds (specs/Index, Holds), for a reading that enters the tags of its rows' serial numbers one by one.
 --     same-hash      the same serial number has the same hash, however its check is written: all that is used of sameSerial
 --     one-slot one-tag   so it has one slot and one tag
+--     hash-given     the hash of a part of a file
+--     sized          how long the array is
 --     slot-below     a slot is one of the first 196613
+--     first-has first-entered   the first entry that is empty or t; t entered there is reached
+--     reached-set    what was reached is reached after an entry into an empty slot
 --     near-here      a place that is found is the place of the hash
 --     place-new      where the place of its hash is empty, no serial number held is this one
 --     holds-none     empty slots hold no serial number
@@ -19,7 +23,7 @@ use lib.Dec.{eqb, ltb}
 use lib.ListN.{length, take, drop, getD, set, replicate, length-drop, length-set, length-replicate}
 use lib.Seq.{take-take, drop-set-lt, drop-set-add, getD-drop, set-getD}
 use borrow.Author.Tests.{eqb-true, eq-eqb}
-use Rattle.metafile.specs.Bytes.{isZero}
+use Rattle.metafile.specs.Bytes.{part, isZero}
 use Rattle.metafile.specs.Fields.{sameSerial, known}
 use Rattle.laws.proofs.First.{test, untrue, or-true, or-left, or-right, isZero-zero}
 use Rattle.laws.proofs.Lists.{drop-take}
@@ -66,6 +70,10 @@ one-slot x y e = ap slotOf (same-hash x y e)
 pub one-tag : (x y : List ℕ) → sameSerial x y ≡ true → tagOf (hashOf x) ≡ tagOf (hashOf y)
 one-tag x y e = ap tagOf (same-hash x y e)
 
+-- the hash of the 38 bytes at a place, as they are handed on
+pub hash-given : (file : List ℕ) (p h : ℕ) → h ≡ hashOf (take (p + 38 - p) (drop p file)) → h ≡ hashOf (part p 38 file)
+hash-given file p h e = let n : p + 38 - p ≡ 38 = omega arith in rw n at e
+
 pub slot-below : (h : ℕ) → slotOf h < 196613
 unfolding slotOf
 slot-below h = omega arith
@@ -80,7 +88,7 @@ first-reached t (zero ∷ xs) e = untrue e
 first-reached t (suc x ∷ xs) e = test (eqb (suc x) t) (λ q. rw q) (λ q. rw q (first-reached t xs (rw q at e)))
 
 -- it is empty or t, unless it is the end
-first-has : (t : ℕ) (xs : List ℕ) → firstOf t xs < length xs
+pub first-has : (t : ℕ) (xs : List ℕ) → firstOf t xs < length xs
     → (isZero (getD xs (firstOf t xs) 0) || eqb (getD xs (firstOf t xs) 0) t) ≡ true
 unfolding firstOf
 first-has t [] l = absurd (omega arith)
@@ -90,7 +98,7 @@ first-has t (x ∷ xs) l =
     (λ q. rw q (first-has t xs (omega (arith, rw q at l))))
 
 -- t entered there is reached
-first-entered : (t : ℕ) (xs : List ℕ) → 0 < t → firstOf t xs < length xs → reached t (set xs (firstOf t xs) t) ≡ true
+pub first-entered : (t : ℕ) (xs : List ℕ) → 0 < t → firstOf t xs < length xs → reached t (set xs (firstOf t xs) t) ≡ true
 unfolding reached firstOf isZero
 first-entered t [] s l = absurd (omega arith)
 first-entered zero (x ∷ xs) s l = absurd (omega arith)
@@ -103,7 +111,7 @@ first-entered (suc t) (suc x ∷ xs) s l =
     (or-right (eqb (suc x) k) (reached k (set xs (firstOf k xs) k)) (first-entered k xs s (omega (arith, rw q at l)))))
 
 -- what was reached from any slot on is reached after an entry into an empty one
-reached-set : (t v k p : ℕ) (xs : List ℕ) → getD xs p 0 ≡ 0 → reached t (drop k xs) ≡ true → reached t (drop k (set xs p v)) ≡ true
+pub reached-set : (t v k p : ℕ) (xs : List ℕ) → getD xs p 0 ≡ 0 → reached t (drop k xs) ≡ true → reached t (drop k (set xs p v)) ≡ true
 unfolding reached isZero
 reached-set t v zero p [] z e = untrue e
 reached-set t v (suc k) p [] z e = untrue e
@@ -188,6 +196,11 @@ module _ {serials : List (List ℕ)} {index : List ℕ} (w : Holds serials index
         long = length-set index 0 n ∙ w .long;
         reach = λ x k. rw (drop-set-lt (1 + slotOf (hashOf x)) index 0 n (omega arith)) (w .reach x k);
       }
+
+-- how long the array is
+pub sized : size ≡ 197126
+unfolding size
+sized = refl
 
 pub holds-none : Holds [] (replicate 197126 0)
 unfolding size known

@@ -37,7 +37,7 @@ pub fn tag(hash: u64) -> u32
 }
 
 // The slot at which the search for a hash begins.
-fn slot(hash: u64) -> usize
+pub fn slot(hash: u64) -> usize
     ensures { λ r. ⌜ r ≡ slotOf hash ⌝ }
 {
     let m = hash % 2147483647;
@@ -45,7 +45,7 @@ fn slot(hash: u64) -> usize
 }
 
 // The first entry that is empty or this tag; the end where there is none.
-fn first(entries: &[u32], tag: u32) -> usize
+pub fn first(entries: &[u32], tag: u32) -> usize
     ensures { λ r. ⌜ r ≡ firstOf tag (now (entries .entry)) ⌝ }
 {
     let mut i: usize = 0;

@@ -2,7 +2,9 @@
 -- Lists      equal bytes, tests over all bytes, parts, members
 -- Digits     a number in n digits is read back
 -- SameSerial serial numbers compared by their first 35 bytes
--- Zero       what holds no zero byte: digits, text, date, offset, serial number
+-- Zero       what holds no zero byte: digits, text, date, offset, serial number; what is text
+-- Below      tests of the numbers below n, and a property of all elements of their lists
+-- Split      bytes divided at a byte, fields with it between them, lines each with its LF
 -- Table      the field rule, and the laws of a run over a stretch of fields: enough, local, zero-free, round trip
 -- Stages     stages in a row as code goes through them, and bytes at a place
 -- Loops      what loops over bytes need
@@ -17,6 +19,8 @@ pub mod Lists
 pub mod Digits
 pub mod SameSerial
 pub mod Zero
+pub mod Below
+pub mod Split
 pub mod Table
 pub mod Stages
 pub mod Loops

@@ -88,6 +88,9 @@ part-local p n s t h =
     let hn : n ≤ length (drop p s) = simp length-drop (omega arith) in
     rw (drop-append-le p s t hp) (take-append-le n (drop p s) t hn)
 
+pub part-long : (s : List ℕ) (p n : ℕ) → p + n ≤ length s → length (part p n s) ≡ n
+part-long s p n h = simp (length-take, length-drop) (omega arith)
+
 pub drop-take : (p n : ℕ) (s : List ℕ) → drop p (take (p + n) s) ≡ take n (drop p s)
 drop-take zero n s = let k : zero + n ≡ n = omega arith in rw k
 drop-take (suc p) n [] = let k : suc p + n ≡ suc (p + n) = omega arith in rw (k, take-all {A = ℕ} n [] (omega arith))

@@ -1,20 +1,22 @@
 -- What holds no zero byte: the fields that a reader takes, but for free bytes. A byte that was lost as zero is seen there.
+-- Numbers, dates and serial numbers are text.
 --     digit-nonZero text-nonZero digits-clear text-clear   bytes
---     join-clear             two parts side by side
---     decimal-clear date-clear offset-clear serial-clear   composed fields
+--     join-all               two parts side by side
+--     count-text date-text serial-text   fields that are text
+--     count-clear decimal-clear date-clear offset-clear serial-clear   composed fields
 -- Assumes nothing.
-use Prim.Native.Nat.{ℕ, zero, suc, _+_, _*_, _≤_, _<_}
-use mathlib.Core.Bool.{Bool, true, false, cond, not, _&&_, _||_}
-use mathlib.Core.Path.{_≡_, refl, sym, ap, _∙_}
+use Prim.Native.Nat.{ℕ, zero, suc, _+_, _*_}
+use mathlib.Core.Bool.{Bool, true, _&&_}
+use mathlib.Core.Path.{_≡_, refl}
 use mathlib.Core.List.{List, [], _∷_, _++_}
 use native.Mathlib.Omega.{arith}
 use lib.Dec.{leb, ltb, eqb}
 use lib.ListN.{length, take, drop}
 use lib.Seq.{take-add, drop-drop}
-use borrow.Author.Tests.{eqb-true}
+use borrow.Author.Tests.{eqb-true, leb-true, le-leb}
 use Rattle.metafile.specs.Bytes.{bytes, part, all, isZero, nonZero, same, member, sum}
-use Rattle.metafile.specs.Fields.{isDigit, number, digitsTo, isCount, countValue, isText, isDate, yearOf, monthOf, dayOf, monthDays, isSpace, takeWhile, dropWhile, pointPassed, digitsBefore, pointOn, digitsBehind, spacesBehind, isDecimal, decimalUnits, second, isOffset, isSerial}
-use Rattle.laws.proofs.First.{test, untrue, and-both}
+use Rattle.metafile.specs.Fields.{isDigit, number, digitsTo, isCount, countValue, isText, isDate, yearOf, monthOf, dayOf, monthDays, isSpace, dropWhile, pointPassed, digitsBefore, pointOn, digitsBehind, spacesBehind, isDecimal, decimalUnits, second, isOffset, isSerial}
+use Rattle.laws.proofs.First.{test, and-both, both-and}
 use Rattle.laws.proofs.Lists.{same-eq, all-append, all-weaken, allOf, member-all}
 
 -- ---- bytes
@@ -40,37 +42,58 @@ digits-clear v e = all-weaken isDigit nonZero v digit-nonZero e
 pub text-clear : (v : List ℕ) → all isText v ≡ true → all nonZero v ≡ true
 text-clear v e = all-weaken isText nonZero v text-nonZero e
 
-while-clear : (p : ℕ → Bool) (v : List ℕ) → ((x : ℕ) → p x ≡ true → nonZero x ≡ true) → all nonZero (dropWhile p v) ≡ true → all nonZero v ≡ true
+digit-text : (x : ℕ) → isDigit x ≡ true → isText x ≡ true
+unfolding isDigit isText
+digit-text x e =
+    let h = and-both (leb 48 x) (leb x 57) e in
+    both-and (leb 32 x) (leb x 126)
+    (le-leb 32 x (omega (arith, leb-true 48 x (h .0))))
+    (le-leb x 126 (omega (arith, leb-true x 57 (h .1))))
+
+space-text : (x : ℕ) → isSpace x ≡ true → isText x ≡ true
+unfolding isSpace isText
+space-text x e = rw (eqb-true x 32 e)
+
+while-all : (p q : ℕ → Bool) (v : List ℕ) → ((x : ℕ) → p x ≡ true → q x ≡ true) → all q (dropWhile p v) ≡ true → all q v ≡ true
 unfolding dropWhile all
-while-clear p [] h e = refl
-while-clear p (x ∷ xs) h e =
-    test (p x) (λ q. rw (h x q) (while-clear p xs h (rw q at e))) (λ q. rw q at e)
+while-all p q [] h e = refl
+while-all p q (x ∷ xs) h e =
+    test (p x) (λ k. rw (h x k) (while-all p q xs h (rw k at e))) (λ k. rw k at e)
+
+digits-text : (v : List ℕ) → all isDigit v ≡ true → all isText v ≡ true
+digits-text v e = all-weaken isDigit isText v digit-text e
+
+pub count-text : (v : List ℕ) → isCount v ≡ true → all isText v ≡ true
+unfolding isCount
+count-text v e =
+    while-all isSpace isText v space-text
+    (digits-text _ (and-both (leb 1 (length (dropWhile isSpace v))) (all isDigit (dropWhile isSpace v)) e .1))
 
 pub count-clear : (v : List ℕ) → isCount v ≡ true → all nonZero v ≡ true
-unfolding isCount
-count-clear v e =
-    while-clear isSpace v space-nonZero
-    (digits-clear _ (and-both (leb 1 (length (dropWhile isSpace v))) (all isDigit (dropWhile isSpace v)) e .1))
+count-clear v e = text-clear v (count-text v e)
 
-digitsTo-clear : (most : ℕ) (v : List ℕ) → digitsTo most v ≡ true → all nonZero v ≡ true
+digitsTo-text : (most : ℕ) (v : List ℕ) → digitsTo most v ≡ true → all isText v ≡ true
 unfolding digitsTo
-digitsTo-clear most v e = digits-clear v (and-both (all isDigit v) (leb (number v) most) e .0)
+digitsTo-text most v e = digits-text v (and-both (all isDigit v) (leb (number v) most) e .0)
 
 -- two parts side by side
-pub join-clear : (p n k : ℕ) (v : List ℕ) → all nonZero (part p n v) ≡ true → all nonZero (part (p + n) k v) ≡ true → all nonZero (part p (n + k) v) ≡ true
-join-clear p n k v a b =
-    rw (take-add n k (drop p v), drop-drop n p v) (all-append nonZero (part p n v) (part (p + n) k v) a b)
+pub join-all : (q : ℕ → Bool) (p n k : ℕ) (v : List ℕ) → all q (part p n v) ≡ true → all q (part (p + n) k v) ≡ true → all q (part p (n + k) v) ≡ true
+join-all q p n k v a b =
+    rw (take-add n k (drop p v), drop-drop n p v) (all-append q (part p n v) (part (p + n) k v) a b)
 
 -- ---- date
 
-pub date-clear : (v : List ℕ) → isDate v ≡ true → all nonZero v ≡ true
+pub date-text : (v : List ℕ) → isDate v ≡ true → all isText v ≡ true
 unfolding isDate
-date-clear v e =
+date-text v e =
     let year : Bool = leb 1 (yearOf v) in
     let day : Bool = leb 1 (dayOf v) in
     let h = and-both (all isDigit v && year && day) (leb (dayOf v) (monthDays (yearOf v) (monthOf v))) e in
     let k = and-both (all isDigit v && year) day (h .0) in
-    digits-clear v (and-both (all isDigit v) year (k .0) .0)
+    digits-text v (and-both (all isDigit v) year (k .0) .0)
+
+pub date-clear : (v : List ℕ) → isDate v ≡ true → all nonZero v ≡ true
+date-clear v e = text-clear v (date-text v e)
 
 -- ---- offset
 
@@ -83,8 +106,8 @@ pub decimal-clear : (v : List ℕ) → isDecimal v ≡ true → all nonZero v �
 unfolding isDecimal spacesBehind pointOn
 decimal-clear v e =
     let h = and-both (leb 1 (length (digitsBefore v ++ digitsBehind v))) (all isSpace (spacesBehind v)) e in
-    while-clear isSpace v space-nonZero
-    (while-clear isDigit _ digit-nonZero (point-clear _ (while-clear isDigit _ digit-nonZero (all-weaken isSpace nonZero _ space-nonZero (h .1)))))
+    while-all isSpace nonZero v space-nonZero
+    (while-all isDigit nonZero _ digit-nonZero (point-clear _ (while-all isDigit nonZero _ digit-nonZero (all-weaken isSpace nonZero _ space-nonZero (h .1)))))
 
 signs : List (List ℕ)
 signs = bytes "+" ∷ bytes "-" ∷ []
@@ -104,15 +127,15 @@ offset-clear v e =
     let h3 = and-both (sign && hours && minutes) decimal (h4 .0) in
     let h2 = and-both (sign && hours) minutes (h3 .0) in
     let h1 = and-both sign hours (h2 .0) in
-    join-clear 0 1 15 v (member-all (all nonZero) (part 0 1 v) signs signs-clear (h1 .0))
-    (join-clear 1 2 13 v (digitsTo-clear 23 (part 1 2 v) (h1 .1))
-    (join-clear 3 2 11 v (digitsTo-clear 59 (part 3 2 v) (h2 .1)) (decimal-clear (part 5 11 v) (h3 .1))))
+    join-all nonZero 0 1 15 v (member-all (all nonZero) (part 0 1 v) signs signs-clear (h1 .0))
+    (join-all nonZero 1 2 13 v (text-clear _ (digitsTo-text 23 (part 1 2 v) (h1 .1)))
+    (join-all nonZero 3 2 11 v (text-clear _ (digitsTo-text 59 (part 3 2 v) (h2 .1))) (decimal-clear (part 5 11 v) (h3 .1))))
 
 -- ---- serial number
 
-pub serial-clear : (v : List ℕ) → isSerial v ≡ true → all nonZero (take 38 v) ≡ true
-unfolding isSerial all nonZero isZero
-serial-clear v e =
+pub serial-text : (v : List ℕ) → isSerial v ≡ true → all isText (take 38 v) ≡ true
+unfolding isSerial all isText
+serial-text v e =
     let sign : Bool = same (part 0 1 v) (bytes "#") in
     let day : Bool = isDate (part 1 8 v) in
     let hour : Bool = digitsTo 23 (part 9 2 v) in
@@ -131,11 +154,14 @@ serial-clear v e =
     let h3 = and-both (sign && day && hour) minute (h4 .0) in
     let h2 = and-both (sign && day) hour (h3 .0) in
     let h1 = and-both sign day (h2 .0) in
-    join-clear 0 1 37 v (rw (same-eq (part 0 1 v) (bytes "#") (h1 .0)))
-    (join-clear 1 8 29 v (date-clear (part 1 8 v) (h1 .1))
-    (join-clear 9 2 27 v (digitsTo-clear 23 (part 9 2 v) (h2 .1))
-    (join-clear 11 2 25 v (digitsTo-clear 59 (part 11 2 v) (h3 .1))
-    (join-clear 13 2 23 v (digitsTo-clear 59 (part 13 2 v) (h4 .1))
-    (join-clear 15 3 20 v (digitsTo-clear 999 (part 15 3 v) (h5 .1))
-    (join-clear 18 12 8 v (text-clear (part 18 12 v) (h6 .1))
-    (join-clear 30 5 3 v (digitsTo-clear 65535 (part 30 5 v) (h7 .1)) (count-clear (part 35 3 v) (h8 .1)))))))))
+    join-all isText 0 1 37 v (rw (same-eq (part 0 1 v) (bytes "#") (h1 .0)))
+    (join-all isText 1 8 29 v (date-text (part 1 8 v) (h1 .1))
+    (join-all isText 9 2 27 v (digitsTo-text 23 (part 9 2 v) (h2 .1))
+    (join-all isText 11 2 25 v (digitsTo-text 59 (part 11 2 v) (h3 .1))
+    (join-all isText 13 2 23 v (digitsTo-text 59 (part 13 2 v) (h4 .1))
+    (join-all isText 15 3 20 v (digitsTo-text 999 (part 15 3 v) (h5 .1))
+    (join-all isText 18 12 8 v (h6 .1)
+    (join-all isText 30 5 3 v (digitsTo-text 65535 (part 30 5 v) (h7 .1)) (count-text (part 35 3 v) (h8 .1)))))))))
+
+pub serial-clear : (v : List ℕ) → isSerial v ≡ true → all nonZero (take 38 v) ≡ true
+serial-clear v e = text-clear (take 38 v) (serial-text v e)

@@ -5,6 +5,7 @@
 -- NoBytes       a file of no bytes
 -- ThreeEndings  how the end of a chunk was found
 -- SpacesInFront numbers with spaces in front, and one serial number under two writings of its check
+-- Relations     the contents of ADS\SYS\Relations, written and checked
 -- Given         a text that is given, and what append sees of it
 pub mod Computed
 pub mod Samples
@@ -13,4 +14,5 @@ pub mod Joint
 pub mod NoBytes
 pub mod ThreeEndings
 pub mod SpacesInFront
+pub mod Relations
 pub mod Given

@@ -12,6 +12,10 @@ use Rattle.metafile.specs.declared.AppendAnswer.{AppendAnswer}
 use Rattle.metafile.specs.declared.AppendAnswer.the-variants.{Ends, Refused as AppendRefused}
 use Rattle.metafile.specs.declared.GatherAnswer.{GatherAnswer}
 use Rattle.metafile.specs.declared.GatherAnswer.the-variants.{Joined, Refused as GatherRefused}
+use Rattle.metafile.specs.declared.RelationsWriteAnswer.{RelationsWriteAnswer}
+use Rattle.metafile.specs.declared.RelationsWriteAnswer.the-variants.{Written as RelationsWritten, Refused as RelationsWriteRefused}
+use Rattle.metafile.specs.declared.RelationsCheckAnswer.{RelationsCheckAnswer}
+use Rattle.metafile.specs.declared.RelationsCheckAnswer.the-variants.{Checked, Refused as RelationsCheckRefused}
 use Rattle.metafile.specs.Bytes.{choose}
 
 -- an accepted call's values, in the order of the paper, or one refusal number
@@ -41,6 +45,16 @@ appendAnswer (AppendRefused n) = refused n
 unfoldable pub gatherAnswer : GatherAnswer → Answer
 gatherAnswer (Joined length′) = result (length′ ∷ [])
 gatherAnswer (GatherRefused n) = refused n
+
+-- the length of the text
+unfoldable pub relationsWriteAnswer : RelationsWriteAnswer → Answer
+relationsWriteAnswer (RelationsWritten length′) = result (length′ ∷ [])
+relationsWriteAnswer (RelationsWriteRefused n) = refused n
+
+-- the number of verdicts
+unfoldable pub relationsCheckAnswer : RelationsCheckAnswer → Answer
+relationsCheckAnswer (Checked count) = result (count ∷ [])
+relationsCheckAnswer (RelationsCheckRefused n) = refused n
 
 -- ---- refusals
 

@@ -12,6 +12,8 @@
 --     Description  the chunk description's methods
 --     Append     append: tests, the three writes, the buffer afterwards
 --     Calls      read, parent, contents, gather
+--     Below      tests and lists over the numbers below another
+--     Relations  the contents of ADS\SYS\Relations: written, checked
 --     Cut        what a power cut leaves
 --     Demand     what is demanded of a reading after a power cut
 --     Listing    the text that the listing program prints
@@ -28,6 +30,8 @@ pub mod Begin
 pub mod Description
 pub mod Append
 pub mod Calls
+pub mod Below
+pub mod Relations
 pub mod Cut
 pub mod Demand
 pub mod Listing

@@ -1,4 +1,4 @@
-// The types of a SEG-UKOOA ADS metafile 1.00 that the definitions in specs/ name: the row, the answers of the six
+// The types of a SEG-UKOOA ADS metafile 1.00 that the definitions in specs/ name: the row, the answers of the
 // calls, and the description of a chunk to append, with its methods. specs/ says what each call gives.
 //     clean         whether a file is clean
 //     endings       how the end of a chunk was found
@@ -70,6 +70,18 @@ pub enum AppendAnswer {
 // What gather answers: the length of the joined data.
 pub enum GatherAnswer {
     Joined(usize),
+    Refused(u8),
+}
+
+// What the writer of relations answers: the length of the text.
+pub enum RelationsWriteAnswer {
+    Written(usize),
+    Refused(u8),
+}
+
+// What the check of relations answers: the number of verdicts.
+pub enum RelationsCheckAnswer {
+    Checked(usize),
     Refused(u8),
 }
 

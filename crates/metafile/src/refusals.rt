@@ -51,5 +51,11 @@ pub const OPEN: u8 = 16;
 // append of a MultiChunk
 pub const MULTICHUNK: u8 = 17;
 
-// the lent buffer is too short for the result
+// the lent buffer or list is too short for the result
 pub const NO_ROOM: u8 = 18;
+
+// relations: the row's sub-format is another
+pub const NOT_RELATIONS: u8 = 19;
+
+// relations: the heading line is wrong
+pub const HEADING: u8 = 20;

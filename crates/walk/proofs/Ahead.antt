@@ -1,9 +1,8 @@
 -- How many rows are there, by the chunks ahead (specs/Ahead).
 --     serial-place-is     the place of a serial number, by the parts of its chunk
---     sized               how long the array is
 --     Stands, stands      a whole chunk at a place: where it ends, its serial number, and where that stands
 --     row-serial-at row-is-new   the serial number of a row, at its place; it is in no row before
---     serial-given hash-given    the serial number at a place, and its hash, as they are handed on
+--     serial-given        the serial number at a place, as it is handed on
 --     marked-..           the rows in the filter: none, one more
 --     candidate-..        a place noted, a hash set
 --     looking-..          the chunks looked at: none, one more
@@ -38,7 +37,7 @@ use Rattle.chunk_laws.proofs.File.{header-whole, length-mark}
 use Rattle.chunk_laws.proofs.Serials.{file-fresh, rowWith-self}
 use Rattle.chunk.specs.Layout.{layoutOf, partsOf, faulty}
 use Rattle.index.specs.Index.{hashOf, size}
-use Rattle.index.proofs.Laws.{hash-first, same-hash}
+use Rattle.index.proofs.Laws.{hash-first, same-hash, sized}
 use Rattle.filter.specs.Filter.{coveredBy, covering}
 use Rattle.filter.proofs.Laws.{covering-long, covering-covers, covering-keeps}
 use Rattle.order.specs.Order.{listed, Kept, Again, Next}
@@ -92,10 +91,6 @@ serial-place-is file e at l is z n mark =
       length-mark file (header-whole file e),
     )
 
-pub sized : size ≡ 197126
-unfolding size
-sized = refl
-
 -- a whole chunk, by its layout
 pub known-number : (file : List ℕ) (p : ℕ) (l : Layout) → l ≡ chunkAt file p → chunkFault (isLLC file) (markOf file) (drop p file) ≡ 0
     → l .number ≡ 0
@@ -108,10 +103,6 @@ thirty-five file q = take-take 35 38 (drop q file) (omega arith)
 -- the serial number at a place, from the part of the file that is handed on
 pub serial-given : (file : List ℕ) (p : ℕ) → take 38 (take (length file - p) (drop p file)) ≡ part p 38 file
 serial-given file p = rw (part-drop file p)
-
--- the hash of the serial number at a place, from the part of the file that is handed on
-pub hash-given : (file : List ℕ) (p h : ℕ) → h ≡ hashOf (take (p + 38 - p) (drop p file)) → h ≡ hashOf (part p 38 file)
-hash-given file p h e = let n : p + 38 - p ≡ 38 = omega arith in rw n at e
 
 -- the bytes behind the first 35 don't matter for the hash
 hash-of : (file : List ℕ) (p b : ℕ) → part b 35 file ≡ part p 35 file → hashOf (part b 38 file) ≡ hashOf (part p 38 file)

@@ -82,7 +82,7 @@ pub record Stops (file : List ℕ) (c : Cursor) : Type 0 where
   pub good-is : c .header .good ≡ reading file .good
 
 module _ (file : List ℕ) (c : Cursor) (n : ℕ) (is : c ≡ cursorAt file n) where
-  begun-behind : headerFault file ≡ 0 → n ≤ length (rowsOf file) → (c .row ≡ n) × Behind file (c .header) (c .row) (c .at)
+  pub begun-behind : headerFault file ≡ 0 → n ≤ length (rowsOf file) → (c .row ≡ n) × Behind file (c .header) (c .row) (c .at)
   begun-behind e few =
       let all = is ∙ cursor-begun file n e in
       let header : c .header ≡ headerOf file = ap (λ (x : Cursor). x .header) all in

@@ -6,6 +6,7 @@
 --     Loops     what the functions over the steps need
 --     Ahead     the rows known to be there, by the chunks ahead
 --     Cursors   the cursor over the rows
+--     Places    the rows once more, behind a reading
 --     Named     the row of a number
 --     Notes     the values of the rows named, in a survey
 pub mod Stages
@@ -15,5 +16,6 @@ pub mod Index
 pub mod Loops
 pub mod Ahead
 pub mod Cursors
+pub mod Places
 pub mod Named
 pub mod Notes

@@ -13,12 +13,14 @@
 //     lookahead  how many rows are there, by a look at the chunks ahead
 //     rows     what stands behind i rows: the chunk, its serial number, the step
 //     cursor   the cursor over the rows: at the first, at the next
+//     known    the rows once more, behind a reading
 //     walks    the row of a number, the row of a serial number
 //     surveys  one reading for all that append asks of the file
 mod answers;
 mod cursor;
 mod earlier;
 mod headers;
+mod known;
 mod lookahead;
 mod rows;
 mod surveys;
@@ -27,6 +29,7 @@ mod walks;
 pub use answers::Header;
 pub use answers::Numbered;
 pub use answers::Survey;
+pub use cursor::ALL;
 pub use cursor::Cursor;
 pub use cursor::first;
 pub use cursor::next;
@@ -34,6 +37,9 @@ pub use cursor::none;
 pub use earlier::INDEX;
 pub use earlier::empty_index;
 pub use headers::header;
+pub use known::Places;
+pub use known::last;
+pub use known::row_at;
 pub use rows::chunk_at;
 pub use rows::serial_at;
 pub use surveys::survey;

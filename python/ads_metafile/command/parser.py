@@ -2,12 +2,12 @@
 from __future__ import annotations
 
 import sys
-from argparse import ArgumentParser, HelpFormatter, Namespace
+from argparse import Action, ArgumentParser, HelpFormatter, Namespace
 from collections.abc import Callable
 from typing import Any, NoReturn, TypeAlias
 
 from .. import __version__
-from . import checking, cutting, fields, listing, parts, writing
+from . import checking, cutting, fields, listing, parts, relations, writing
 from .output import USAGE, Earned, flush, put, put_message
 
 Run: TypeAlias = Callable[[Namespace, Earned], None]
@@ -16,11 +16,13 @@ DESCRIPTION = ("Reads, checks and writes SEG-UKOOA ADS metafiles 1.00. What a fi
                "library libads.")
 STATUSES = """exit status:
   0  done; of check: every file is clean and all sums are good
-  1  refused, or a file isn't clean; of check: or a sum is bad; of cut-back: there is something to cut
+  1  refused, or a file isn't clean; of check: or a sum is bad; of relations --check: or a line isn't declared; of
+     cut-back: there is something to cut
   2  usage
   3  input or output
 
 `ads SUBCOMMAND --help` shows an example of each."""
+NEW_FILE = "write a new file, which must not be there yet; without it, or with -, the bytes go to standard output"
 
 
 class Help(HelpFormatter):
@@ -30,6 +32,13 @@ class Help(HelpFormatter):
         if text.startswith(("example:", "exit status:")):
             return "\n".join(indent + line for line in text.splitlines())
         return super()._fill_text(text, width, indent)
+
+    def add_argument(self, action: Action) -> None:
+        """Leaves room for the names of subcommands too, which are indented."""
+        super().add_argument(action)
+        for each in self._iter_indented_subactions(action):
+            width = len(self._format_action_invocation(each)) + self._current_indent
+            self._action_max_length = max(self._action_max_length, width)
 
 
 class Parser(ArgumentParser):
@@ -55,7 +64,7 @@ def make_parser() -> ArgumentParser:
         made.set_defaults(run=run)
         return made
 
-    for adding in (add_reading, add_parts, add_writing):
+    for adding in (add_reading, add_parts, add_relations, add_writing):
         adding(add)
     return parser
 
@@ -103,14 +112,26 @@ def add_parts(add: Callable[..., ArgumentParser]) -> None:
     add_output(made)
 
 
+def add_relations(add: Callable[..., ArgumentParser]) -> None:
+    made = add("relations", relations.run, "write or check the contents of a relation chunk",
+               "Writes the contents of a relation chunk (ADS\\SYS\\Relations) for a file: a line for each dependency "
+               "of each row. With --check it says instead of each relation line of such a chunk, counted from 0, "
+               "whether the header of a row declares that dependency: declared, undeclared, or malformed; then how "
+               "many there are of each. Comments are not counted. The status is 1 if a line isn't declared.",
+               "  ads relations survey.ads --write relations.txt\n  ads relations survey.ads --check 4")
+    made.add_argument("file", metavar="FILE", help="metafile")
+    either = made.add_mutually_exclusive_group()
+    either.add_argument("--write", "-o", dest="output", metavar="OUT", help=NEW_FILE)
+    either.add_argument("--check", metavar="ROW", type=parts.row_number, help="row of a relation chunk, counted from 0")
+
+
 def add_row(made: ArgumentParser, what: str, **more: Any) -> None:
     made.add_argument("file", metavar="FILE", help="metafile")
     made.add_argument("row", metavar="ROW", type=parts.row_number, help=what, **more)
 
 
 def add_output(made: ArgumentParser) -> None:
-    made.add_argument("-o", "--output", metavar="OUT", help="write a new file, which must not be there yet; without "
-                      "it, or with -, the bytes go to standard output")
+    made.add_argument("-o", "--output", metavar="OUT", help=NEW_FILE)
 
 
 def add_writing(add: Callable[..., ArgumentParser]) -> None:

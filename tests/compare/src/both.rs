@@ -126,33 +126,35 @@ impl Run {
         plain
     }
 
-    /// Two buffers with a pattern; a call with each; the buffers whole are then compared, and those of a refusal with the
-    /// pattern. Answers the bytes of the result.
-    fn written(
+    /// Two buffers or lists with a pattern; a call with each; these are then compared as a whole, and those of a refusal with
+    /// the pattern. Answers what the result has.
+    fn written<T: Lent, A: Into<(usize, u8)>>(
         &mut self,
         call: Call,
         name: impl Fn() -> String,
         file: &[u8],
         room: usize,
-        proved: impl FnOnce(&mut [u8]) -> ffi::Written,
-        plain: impl FnOnce(&mut [u8]) -> Result<usize, u8>,
-    ) -> Result<Vec<u8>, u8> {
-        let mut lent = [vec![PATTERN; room + BEHIND], vec![PATTERN; room + BEHIND]];
-        let proved = self.proved(file, || proved(&mut lent[0][..room]));
+        proved: impl FnOnce(&mut [T]) -> A,
+        plain: impl FnOnce(&mut [T]) -> Result<usize, u8>,
+    ) -> Result<Vec<T>, u8> {
+        let pattern = T::from(PATTERN);
+        let mut lent = [vec![pattern; room + BEHIND], vec![pattern; room + BEHIND]];
+        let proved = self.proved(file, || proved(&mut lent[0][..room])).into();
         let answer = plain(&mut lent[1][..room]);
-        let as_c = match answer {
-            Ok(length) => ffi::Written { length, number: 0 },
-            Err(number) => ffi::Written { length: 0, number },
+        let (length, number) = match answer {
+            Ok(length) => (length, 0),
+            Err(number) => (0, number),
         };
-        self.same(|| format!("{} into {room} bytes", name()), proved, as_c, file, 0);
+        self.same(|| format!("{} into {room}", name()), proved, (length, number), file, 0);
         if let Some(at) = (0..room + BEHIND).find(|&at| lent[0][at] != lent[1][at]) {
-            let what = format!("{} into {room} bytes: byte {at} is {} and {}", name(), lent[0][at], lent[1][at]);
-            self.fail(&what, &lent[0], at);
+            let shown: Vec<u8> = lent[0].iter().map(|&each| each.into() as u8).collect();
+            let what = format!("{} into {room}: at {at} are {:?} and {:?}", name(), lent[0][at], lent[1][at]);
+            self.fail(&what, &shown, at);
         }
-        let kept = lent[1][as_c.length..].iter().all(|&byte| byte == PATTERN);
-        self.demand(kept, "bytes past the result changed", &lent[1], as_c.length);
-        self.tally.note(call, as_c.number);
-        lent[0].truncate(as_c.length);
+        let kept = lent[1][length..].iter().all(|&each| each == pattern);
+        self.demand(kept, "what stands past the result changed", file, 0);
+        self.tally.note(call, number);
+        lent[0].truncate(length);
         answer.map(|_| std::mem::take(&mut lent[0]))
     }
 
@@ -176,6 +178,30 @@ impl Run {
             |buffer| ffi::gather(file, row, id, buffer),
             |buffer| plain::gather(file, row, id, buffer),
         )
+    }
+
+    pub fn relations_write(&mut self, file: &[u8], room: usize) -> Result<Vec<u8>, u8> {
+        self.written(
+            Call::RelationsWrite,
+            || "relations written".to_string(),
+            file,
+            room,
+            |buffer| ffi::relations_write(file, buffer),
+            |buffer| plain::relations_write(file, buffer),
+        )
+    }
+
+    pub fn relations_check(&mut self, file: &[u8], row: usize, room: usize) -> Result<Vec<u32>, u8> {
+        let verdicts = self.written(
+            Call::RelationsCheck,
+            || format!("relations of row {row} checked"),
+            file,
+            room,
+            |verdicts| ffi::relations_check(file, row, verdicts),
+            |verdicts| plain::relations_check(file, row, verdicts),
+        )?;
+        self.tally.note_verdicts(&verdicts);
+        Ok(verdicts)
     }
 
     pub fn listing(&mut self, input: &[u8], room: usize) -> Result<Vec<u8>, u8> {
@@ -233,6 +259,11 @@ impl Run {
         answer.map(|ends| (ends, proved))
     }
 }
+
+/// What buffers and lists hold.
+trait Lent: Copy + Debug + PartialEq + From<u8> + Into<u64> {}
+
+impl<T: Copy + Debug + PartialEq + From<u8> + Into<u64>> Lent for T {}
 
 /// What append is given beside the buffer and the file's length.
 #[derive(Clone)]

@@ -68,6 +68,25 @@ pub struct Part {
 }
 
 #[repr(C)]
+#[derive(Clone, Copy, Debug, PartialEq, Eq)]
+pub struct Counted {
+    pub count: usize,
+    pub number: u8,
+}
+
+impl From<Written> for (usize, u8) {
+    fn from(answer: Written) -> Self {
+        (answer.length, answer.number)
+    }
+}
+
+impl From<Counted> for (usize, u8) {
+    fn from(answer: Counted) -> Self {
+        (answer.count, answer.number)
+    }
+}
+
+#[repr(C)]
 #[derive(Clone, Copy)]
 pub struct Text<const N: usize> {
     pub bytes: [u8; N],
@@ -99,7 +118,7 @@ const ENDINGS: [Ending; 3] = [Ending::Counted, Ending::Found, Ending::ByMiniChun
 
 #[rustfmt::skip]
 mod c {
-    use super::{Description, Ends, ParentAnswer, Part, Reading, Row, Serial, Written};
+    use super::{Counted, Description, Ends, ParentAnswer, Part, Reading, Row, Serial, Written};
 
     extern "C" {
         pub fn ads_description_new() -> Description;
@@ -129,6 +148,8 @@ mod c {
         pub fn ads_contents(file: *const u8, length: usize, row: usize) -> Part;
         pub fn ads_gather(file: *const u8, length: usize, row: usize, id: *const u8, id_length: usize,
             buffer: *mut u8, buffer_length: usize) -> Written;
+        pub fn ads_relations_write(file: *const u8, length: usize, buffer: *mut u8, buffer_length: usize) -> Written;
+        pub fn ads_relations_check(file: *const u8, length: usize, row: usize, verdicts: *mut u32, room: usize) -> Counted;
         pub fn ads_listing(input: *const u8, length: usize, buffer: *mut u8, buffer_length: usize) -> Written;
     }
 }
@@ -226,14 +247,15 @@ fn lent<R>(bytes: &[u8], call: impl FnOnce(&[u8]) -> R) -> R {
     }
 }
 
-fn lent_mut<R>(bytes: &mut [u8], call: impl FnOnce(&mut [u8]) -> R) -> R {
-    if exact(bytes.len()) {
-        let mut copy = Box::<[u8]>::from(&*bytes);
+/// Bytes, or the numbers of a list.
+fn lent_mut<T: Copy, R>(list: &mut [T], call: impl FnOnce(&mut [T]) -> R) -> R {
+    if exact(size_of_val(list)) {
+        let mut copy = Box::<[T]>::from(&*list);
         let answer = call(&mut copy);
-        bytes.copy_from_slice(&copy);
+        list.copy_from_slice(&copy);
         answer
     } else {
-        call(bytes)
+        call(list)
     }
 }
 
@@ -279,6 +301,22 @@ pub fn gather(file: &[u8], row: usize, id: &[u8], buffer: &mut [u8]) -> Written 
     })))
 }
 
+pub fn relations_write(file: &[u8], buffer: &mut [u8]) -> Written {
+    lent(file, |file| {
+        lent_mut(buffer, |buffer| unsafe {
+            c::ads_relations_write(file.as_ptr(), file.len(), buffer.as_mut_ptr(), buffer.len())
+        })
+    })
+}
+
+pub fn relations_check(file: &[u8], row: usize, verdicts: &mut [u32]) -> Counted {
+    lent(file, |file| {
+        lent_mut(verdicts, |verdicts| unsafe {
+            c::ads_relations_check(file.as_ptr(), file.len(), row, verdicts.as_mut_ptr(), verdicts.len())
+        })
+    })
+}
+
 pub fn listing(input: &[u8], buffer: &mut [u8]) -> Written {
     lent(input, |input| {
         lent_mut(buffer, |buffer| unsafe {
@@ -290,7 +328,7 @@ pub fn listing(input: &[u8], buffer: &mut [u8]) -> Written {
 /// Calls in which a length is claimed that is over 2^30, or over the buffer's, beside a pointer to few bytes.
 #[rustfmt::skip]
 pub mod claimed {
-    use super::{c, Description, Ends, ParentAnswer, Part, Reading, Table, Written};
+    use super::{c, Counted, Description, Ends, ParentAnswer, Part, Reading, Table, Written};
 
     const FEW: [u8; 8] = [0; 8];
 
@@ -339,6 +377,16 @@ pub mod claimed {
             c::ads_append(buffer.0.as_mut_ptr(), buffer.1, length, d, [0].as_ptr(), 1,
                 specific.0, specific.1, contents.0, contents.1, false)
         }
+    }
+
+    pub fn relations_write(file: usize, buffer: (&mut [u8; 8], usize)) -> Written {
+        assert!([file, buffer.1].iter().any(|&length| length > 1 << 30));
+        unsafe { c::ads_relations_write(few(file).0, file, buffer.0.as_mut_ptr(), buffer.1) }
+    }
+
+    pub fn relations_check(length: usize, verdicts: &mut [u32; 2]) -> Counted {
+        assert!(length > 1 << 30);
+        unsafe { c::ads_relations_check(few(length).0, length, 0, verdicts.as_mut_ptr(), verdicts.len()) }
     }
 
     pub fn listing(input: usize, buffer: (&mut [u8; 8], usize)) -> Written {

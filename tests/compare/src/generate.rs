@@ -6,6 +6,7 @@ use crate::build::{pad, spaces, Chunk, Closing, Contents, File, Times, Type};
 use crate::random::Random;
 
 pub const MULTI_CHUNK: &[u8] = b"ADS\\SYS\\MultiChunk";
+pub const RELATIONS: &[u8] = b"ADS\\SYS\\Relations";
 
 /// A serial number, its check now and then with spaces in front.
 pub fn serial(random: &mut Random) -> Serial {

@@ -9,6 +9,7 @@
 //! | `build`, `generate` | files built field by field; valid files of every kind |
 //! | `simple` | files of very many empty chunks |
 //! | `hashes` | the hash of serial numbers; serial numbers with one hash |
+//! | `relations` | the contents of a relation chunk |
 //! | `damage` | damages of each kind of field |
 //! | `describe` | a chunk description for both |
 //! | `both` | each call with both, compared |
@@ -25,5 +26,6 @@ pub mod hashes;
 pub mod kernels;
 pub mod parts;
 pub mod random;
+pub mod relations;
 pub mod simple;
 pub mod tally;

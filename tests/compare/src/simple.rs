@@ -1,9 +1,10 @@
-//! Chunks with nothing special about them, and files of very many empty ones, which differ in serial number and sum alone.
+//! Chunks with nothing special about them, and files of very many empty ones, which differ in serial number and sum alone, or in
+//! what their one dependency names and in their sub-format too.
 
 use plain::{field, Reading, Serial};
 
 use crate::both::Run;
-use crate::build::{Chunk, Closing, Contents, File, Times};
+use crate::build::{filled, Chunk, Closing, Contents, File, Times};
 use crate::generate::{with_check, MULTI_CHUNK};
 use crate::random::Random;
 
@@ -79,29 +80,47 @@ pub fn put(digits: &mut [u8], mut number: usize) {
     }
 }
 
+/// A serial number that no file here has.
+pub const MISSING: Serial = *b"#19990101000000000SURVEYDESK0165535239";
+
 /// A file of empty chunks under LLC000, one for each serial number, with good sums.
 pub struct Many {
     pub bytes: Vec<u8>,
     pub header: usize,
-    /// The chunk under a serial number of zero bytes, and the sum of what its sum is taken of.
+    /// The chunk under a serial number of zero bytes; a dependency's is that, too.
     blank: Vec<u8>,
-    sum: u8,
 }
 
 impl Many {
-    /// Bytes of a chunk, where its serial number stands, and where its sum does.
+    /// Bytes of a chunk without dependencies.
     pub const CHUNK: usize = 856;
-    const SERIAL: usize = Self::CHUNK - 254 + 20;
-    const SUM: usize = Self::CHUNK - 4;
+    /// Where a chunk has its sub-format, and the serial number of its dependency.
+    const NAME: usize = 46;
+    const PARENT: usize = 568 + 25;
 
     pub fn of(serials: &[Serial]) -> Self {
+        let many = Many::like(&chunk([0; 38], Contents::Counted(Vec::new())), serials);
+        assert_eq!(many.blank.len(), Self::CHUNK);
+        many
+    }
+
+    /// Each chunk has one dependency, on the row with this number; on none where there is no such row.
+    pub fn depending(serials: &[Serial], parent: impl Fn(usize) -> usize) -> Self {
+        let mut blank = chunk([0; 38], Contents::Counted(Vec::new()));
+        blank.dependencies = vec![([0; 38], blank.sub_format.clone())];
+        let mut many = Many::like(&blank, serials);
+        for row in 0..serials.len() {
+            many.depend(row, serials.get(parent(row)).unwrap_or(&MISSING));
+        }
+        many
+    }
+
+    fn like(blank: &Chunk, serials: &[Serial]) -> Self {
         let mut file = File::new(false, b"", &closing(counted(1)[0]));
-        file.push(&chunk([0; 38], Contents::Counted(Vec::new())));
+        file.push(blank);
         let blank = file.bytes.split_off(file.header_end);
-        assert_eq!(blank.len(), Self::CHUNK);
-        let sum = field::sum(&blank[..Self::SUM]);
-        let mut many = Many { bytes: file.bytes, header: file.header_end, blank, sum };
-        many.bytes.reserve_exact((serials.len() + 3) * Self::CHUNK);
+        let mut many = Many { bytes: file.bytes, header: file.header_end, blank };
+        many.bytes.reserve_exact((serials.len() + 3) * many.blank.len());
         for serial in serials {
             many.push(serial);
         }
@@ -119,25 +138,48 @@ impl Many {
     }
 
     pub fn chunks(&self) -> usize {
-        (self.bytes.len() - self.header) / Self::CHUNK
+        (self.bytes.len() - self.header) / self.blank.len()
     }
 
     /// Where the chunk of a row begins.
     pub fn place(&self, row: usize) -> usize {
-        self.header + row * Self::CHUNK
+        self.header + row * self.blank.len()
+    }
+
+    /// Where a chunk has its serial number.
+    fn serial_at(&self) -> usize {
+        self.blank.len() - 254 + 20
     }
 
     pub fn serial(&self, row: usize) -> Serial {
-        let at = self.place(row) + Self::SERIAL;
+        let at = self.place(row) + self.serial_at();
         self.bytes[at..at + 38].try_into().expect("38 bytes")
     }
 
-    /// Gives a row another serial number, and the sum that belongs to it.
+    /// Gives a row another serial number.
     pub fn set(&mut self, row: usize, serial: &Serial) {
+        self.change(row, self.serial_at(), serial);
+    }
+
+    /// Gives a row's dependency another serial number.
+    pub fn depend(&mut self, row: usize, parent: &Serial) {
+        self.change(row, Self::PARENT, parent);
+    }
+
+    /// Gives a row another sub-format.
+    pub fn rename(&mut self, row: usize, sub_format: &[u8]) {
+        self.change(row, Self::NAME, &filled(sub_format, 256));
+    }
+
+    /// Puts other bytes at a place of a row's chunk, and the sum that belongs to it.
+    fn change(&mut self, row: usize, at: usize, bytes: &[u8]) {
         let place = self.place(row);
-        self.bytes[place + Self::SERIAL..][..38].copy_from_slice(serial);
-        let sum = self.sum.wrapping_add(field::sum(serial));
-        put(&mut self.bytes[place + Self::SUM..][..3], usize::from(sum));
+        let chunk = &mut self.bytes[place..place + self.blank.len()];
+        let was = field::sum(&chunk[at..][..bytes.len()]);
+        chunk[at..][..bytes.len()].copy_from_slice(bytes);
+        let digits = chunk.len() - 4..chunk.len() - 1;
+        let sum = field::number(&chunk[digits.clone()]).expect("three digits") as u8;
+        put(&mut chunk[digits], usize::from(sum.wrapping_sub(was).wrapping_add(field::sum(bytes))));
     }
 
     /// So many bytes are read by both into a table of so many rows: up to that row, and there they stop with that number.

@@ -1,4 +1,4 @@
-//! How often each number of each call arose, each ending of a row, and a check with spaces in front.
+//! How often each number of each call arose, each ending of a row, each verdict, and a check with spaces in front.
 
 use plain::Row;
 
@@ -10,24 +10,29 @@ pub enum Call {
     Append,
     Contents,
     Gather,
+    RelationsWrite,
+    RelationsCheck,
     Listing,
 }
 
 /// Each call and the numbers that it can give.
-const CALLS: [(&str, &[u8]); 7] = [
+const CALLS: [(&str, &[u8]); 9] = [
     ("begin", &[0, 2, 3, 6, 11, 15, 18]),
     ("read", &[0, 1, 2, 3, 4, 5, 6, 7, 8, 9, 10, 11]),
     ("parent", &[0, 11, 13, 14]),
     ("append", &[0, 6, 9, 11, 12, 13, 15, 16, 17, 18]),
     ("contents", &[0, 11, 13]),
     ("gather", &[0, 11, 13, 14, 18]),
+    ("rel. write", &[0, 11, 18]),
+    ("rel. check", &[0, 11, 13, 18, 19, 20]),
     ("listing", &[0, 11, 18]),
 ];
 
 #[derive(Default)]
 pub struct Tally {
-    times: [[u64; 19]; 7],
+    times: [[u64; 21]; 9],
     endings: [u64; 3],
+    verdicts: [u64; 3],
     spaced: u64,
 }
 
@@ -42,6 +47,13 @@ impl Tally {
         self.spaced += u64::from(row.serial[35] == b' ');
     }
 
+    /// Verdicts that both gave alike.
+    pub fn note_verdicts(&mut self, verdicts: &[u32]) {
+        for &verdict in verdicts {
+            self.verdicts[verdict as usize - 1] += 1;
+        }
+    }
+
     pub fn total(&self) -> u64 {
         self.times.iter().flatten().sum()
     }
@@ -49,27 +61,30 @@ impl Tally {
     pub fn print(&self) {
         print!("{:>10}", "number");
         for (name, _) in CALLS {
-            print!("{name:>10}");
+            print!("{name:>11}");
         }
         println!("{:>10}", "all");
-        for number in 0..19 {
+        for number in 0..21 {
             print!("{number:>10}");
             for times in &self.times {
-                print!("{:>10}", times[number]);
+                print!("{:>11}", times[number]);
             }
             println!("{:>10}", self.times.iter().map(|times| times[number]).sum::<u64>());
         }
         print!("{:>10}", "all");
         for times in &self.times {
-            print!("{:>10}", times.iter().sum::<u64>());
+            print!("{:>11}", times.iter().sum::<u64>());
         }
         println!("{:>10}", self.total());
         let [counted, found, by_mini_chunks] = self.endings;
         println!("rows: {counted} counted, {found} found, {by_mini_chunks} by mini-chunks");
+        let [declared, undeclared, malformed] = self.verdicts;
+        println!("relation lines: {declared} declared, {undeclared} undeclared, {malformed} malformed");
         println!("rows with spaces in front of the serial number's check: {}", self.spaced);
     }
 
-    /// Each number that a call can give arose, and no other; with 1 to 18 each one arose somewhere. So did each ending.
+    /// Each number that a call can give arose, and no other; with 1 to 20 each one arose somewhere. So did each ending and
+    /// each verdict.
     pub fn check(&self) {
         for ((name, can), times) in CALLS.iter().zip(&self.times) {
             for (number, &times) in times.iter().enumerate() {
@@ -77,10 +92,11 @@ impl Tally {
                 assert_eq!(times > 0, can, "{name} gave number {number} {times} times");
             }
         }
-        for number in 1..=18 {
+        for number in 1..=20 {
             assert!(self.times.iter().any(|times| times[number] > 0), "no call gave number {number}");
         }
         assert!(self.endings.iter().all(|&rows| rows > 0), "an ending is missing: {:?}", self.endings);
+        assert!(self.verdicts.iter().all(|&lines| lines > 0), "a verdict is missing: {:?}", self.verdicts);
         assert!(self.spaced > 0, "no row has spaces in front of its serial number's check");
         assert!(self.total() >= 200_000, "{} calls are too few", self.total());
     }

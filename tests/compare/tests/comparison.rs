@@ -6,11 +6,13 @@
 use std::time::Instant;
 
 use compare::both::Run;
-use compare::parts::{appends, begins, cuts, damaged, limits, listings, marks, pairs, rich, valid};
+use compare::parts::{
+    appends, begins, cuts, damaged, limits, listings, marks, pairs, relation_lines, relations, rich, valid,
+};
 
 type Part = (&'static str, fn(&mut Run));
 
-const PARTS: [Part; 10] = [
+const PARTS: [Part; 12] = [
     ("valid files", |run| valid::run(run, 1500)),
     ("a rich file", rich::run),
     ("two faults", pairs::run),
@@ -19,6 +21,8 @@ const PARTS: [Part; 10] = [
     ("append", |run| appends::run(run, 2500)),
     ("open marks", |run| marks::run(run, 3000)),
     ("power cuts", |run| cuts::run(run, 24)),
+    ("relations", |run| relations::run(run, 1500)),
+    ("relation lines", relation_lines::run),
     ("listings", listings::run),
     ("limits", limits::run),
 ];

@@ -7,6 +7,7 @@ use std::thread;
 use compare::ffi::{self, Table};
 use compare::hashes::one_hash;
 use compare::parts::every_call::{new_serials, Case};
+use compare::relations::{HEADING_BYTES, LINE_BYTES};
 use compare::simple::{random, Many};
 
 const STACK_BYTES: usize = 1 << 20;
@@ -31,6 +32,17 @@ fn each_call_that_reads() {
     in_small_thread(|| assert_eq!(ffi::contents(file, case.last).number, 0));
     in_small_thread(|| assert_eq!(ffi::parent(file, case.last, 1).row, case.late));
     in_small_thread(|| assert_eq!(ffi::gather(file, case.multi, b"P1", &mut [0; 8]).length, 8));
+}
+
+#[test]
+fn relations() {
+    let case = case(2_000);
+    let mut text = vec![0; HEADING_BYTES + Case::LINES * LINE_BYTES];
+    in_small_thread(|| assert_eq!(ffi::relations_write(&case.bytes, &mut text).length, text.len()));
+    let file = case.with_relations(text);
+    let mut verdicts = [0; Case::LINES];
+    in_small_thread(|| assert_eq!(ffi::relations_check(&file, case.last + 1, &mut verdicts).count, Case::LINES));
+    assert_eq!(verdicts, [1; Case::LINES]);
 }
 
 #[test]

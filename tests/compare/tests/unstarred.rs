@@ -6,6 +6,7 @@ use compare::both::{Appended, Run};
 use compare::describe::Described;
 use compare::parts::appends;
 use compare::random::Random;
+use compare::relations::HEADING_BYTES;
 use plain::Reading;
 
 /// The file of the specification's listing: one chunk of 3 bytes.
@@ -49,7 +50,10 @@ fn no_bytes() {
         assert_eq!(Run::new(0).parent(&[], row, 0).err(), Some(13));
         assert_eq!(Run::new(0).contents(&[], row), Err(13));
         assert_eq!(Run::new(0).gather(&[], row, b"P2/91", 100), Err(13));
+        assert_eq!(Run::new(0).relations_check(&[], row, 0), Err(13));
     }
+    assert_eq!(Run::new(0).relations_write(&[], HEADING_BYTES).map(|text| text.len()), Ok(HEADING_BYTES));
+    assert_eq!(Run::new(0).relations_write(&[], HEADING_BYTES - 1), Err(18));
 }
 
 /// An append that is accepted is refused with 12 where no bytes are claimed for the file, whatever stands in the buffer and

@@ -12,6 +12,7 @@
 //! | `writer` | lines written into a lent buffer |
 //! | `begin`, `append` | the calls that write a file |
 //! | `parent`, `part` | `parent`; `contents` and `gather` |
+//! | `relations` | the contents of a relation chunk, written and checked |
 //! | `listing` | the text of the listing |
 #![forbid(unsafe_code)]
 
@@ -28,6 +29,7 @@ pub mod number;
 mod parent;
 mod part;
 mod reading;
+mod relations;
 mod writer;
 
 pub use append::{append, Ends};
@@ -39,6 +41,7 @@ pub use listing::listing;
 pub use parent::{parent, Parent};
 pub use part::{contents, gather};
 pub use reading::{read, Reading, Row};
+pub use relations::{relations_check, relations_write, DECLARED, MALFORMED, UNDECLARED};
 
 /// An I12 and the places of a file of 2^30 bytes are held as `usize`.
 const _: () = assert!(usize::BITS >= 64);

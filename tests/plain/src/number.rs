@@ -34,8 +34,12 @@ pub const ZERO: u8 = 15;
 pub const OPEN: u8 = 16;
 /// "append of a MultiChunk"
 pub const MULTI: u8 = 17;
-/// "lent buffer too short for the result"
+/// "lent buffer too short for the result", "for a list too"
 pub const ROOM: u8 = 18;
+/// "A row of another sub-format gets 19"
+pub const RELATIONS: u8 = 19;
+/// "a wrong heading line 20"
+pub const HEADING: u8 = 20;
 
 /// "a lent byte buffer over 2^30"
 pub fn over_limit(lengths: &[usize]) -> bool {

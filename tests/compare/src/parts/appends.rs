@@ -152,9 +152,7 @@ fn described(random: &mut Random) -> Described {
         Step::Recording(closing.recorded, closing.recorder),
         Step::Writing(closing.written, closing.writer),
     ];
-    for last in (1..steps.len()).rev() {
-        steps.swap(last, random.below(last + 1));
-    }
+    random.shuffle(&mut steps);
     let (alternate, master) = (generate::serial(random), bad_serial(random));
     let first = random.pick(&[
         Step::AlternateStandard(alternate),
@@ -193,9 +191,7 @@ pub fn good(random: &mut Random, nul: bool, open: bool, least: usize) -> Case {
         }
     }
     let mut parents: Vec<usize> = (0..chunks).collect();
-    for last in (1..parents.len()).rev() {
-        parents.swap(last, random.below(last + 1));
-    }
+    random.shuffle(&mut parents);
     parents.truncate(random.between(0, chunks.min(16)));
     let mut description = described(random);
     if open {

@@ -9,7 +9,8 @@ use crate::describe::Step;
 use crate::generate::{otherwise, with_check};
 use crate::parts::appends;
 use crate::random::Random;
-use crate::simple::{chunk, closing, times, Many};
+use crate::relations::{chunk_with, HEADING_BYTES, LINE_BYTES};
+use crate::simple::{chunk, closing, times, Many, MISSING};
 
 /// The file, and rows of it.
 pub struct Case {
@@ -31,6 +32,14 @@ impl Case {
         let mut bytes = many.bytes;
         bytes.extend(two_chunks(&known, of_last));
         Case { bytes, known, early, late, empty, multi, last: multi + 1 }
+    }
+
+    /// So many relation lines have the two chunks.
+    pub const LINES: usize = 6;
+
+    /// The file with a relation chunk behind it, which has this text.
+    pub fn with_relations(&self, text: Vec<u8>) -> Vec<u8> {
+        [&self.bytes[..], &chunk_with(MISSING, &[], text)].concat()
     }
 
     /// An append of one chunk more, and the buffer for it.
@@ -70,6 +79,7 @@ pub fn run(run: &mut Run, case: &Case) {
     parents(run, case);
     assert_eq!(run.gather(&case.bytes, case.multi, b"P1", 8), Ok(b"onethree".to_vec()));
     assert_eq!(run.gather(&case.bytes, case.empty, b"P1", 8), Err(14));
+    relations(run, case);
     for serial in case.known {
         assert_eq!(append(run, case, serial), Err(9));
     }
@@ -92,6 +102,12 @@ fn parents(run: &mut Run, case: &Case) {
     }
     assert_eq!(run.parent(&case.bytes, case.last, 5), Ok(None));
     assert_eq!(run.parent(&case.bytes, case.last, 6), Err(14));
+}
+
+fn relations(run: &mut Run, case: &Case) {
+    let text = run.relations_write(&case.bytes, HEADING_BYTES + Case::LINES * LINE_BYTES).expect("there is room");
+    let file = case.with_relations(text);
+    assert_eq!(run.relations_check(&file, case.last + 1, Case::LINES), Ok(vec![1; Case::LINES]));
 }
 
 /// Whether the file grows.

@@ -31,6 +31,10 @@ fn real(run: &mut Run) {
     let _ = run.gather(&long[1..], 0, b"", 0);
     let _ = run.gather(b"", 0, &long, 0);
     let _ = run.gather(b"", 0, &long[1..], 0);
+    let _ = run.relations_write(&long, 200);
+    let _ = run.relations_write(&long[1..], 200);
+    let _ = run.relations_check(&long, 0, 2);
+    let _ = run.relations_check(&long[1..], 0, 2);
     let _ = run.listing(&long, 100);
 
     let serial = [b' '; 38];
@@ -59,10 +63,12 @@ fn real(run: &mut Run) {
         let answers = [ffi::gather(b"", 0, b"", buffer).number, plain::gather(b"", 0, b"", buffer).unwrap_err()];
         both(run, Call::Gather, answers, number);
         let number = if length > LIMIT { 11 } else { 0 };
-        let answers =
-            [ffi::listing(b"", buffer).number, plain::listing(b"", buffer).map_or_else(|number| number, |_| 0)];
+        let plain = |answer: Result<usize, u8>| answer.map_or_else(|number| number, |_| 0);
+        let answers = [ffi::listing(b"", buffer).number, plain(plain::listing(b"", buffer))];
         both(run, Call::Listing, answers, number);
-        buffer[..40].fill(0);
+        let answers = [ffi::relations_write(b"", buffer).number, plain(plain::relations_write(b"", buffer))];
+        both(run, Call::RelationsWrite, answers, number);
+        buffer[..200].fill(0);
         let number = if length > LIMIT { 11 } else { 12 };
         let (proved, plain) = (ffi::Description::new(), plain::Description::new());
         let answers = [
@@ -120,7 +126,13 @@ fn claims(run: &mut Run) {
         one(run, Call::Gather, claimed::gather(length, 1, (&mut buffer, 8)).number);
         one(run, Call::Gather, claimed::gather(8, length, (&mut buffer, 8)).number);
         one(run, Call::Gather, claimed::gather(8, 1, (&mut buffer, length)).number);
+        one(run, Call::RelationsWrite, claimed::relations_write(length, (&mut buffer, 8)).number);
+        one(run, Call::RelationsWrite, claimed::relations_write(8, (&mut buffer, length)).number);
         one(run, Call::Listing, claimed::listing(8, (&mut buffer, length)).number);
+
+        let mut verdicts = [7; 2];
+        one(run, Call::RelationsCheck, claimed::relations_check(length, &mut verdicts).number);
+        run.demand(verdicts == [7; 2], "the check touched the list", b"", 0);
 
         let d = ffi::Description::new();
         one(run, Call::Append, claimed::append((&mut buffer, length), 8, d, 1, 1).number);

@@ -9,6 +9,8 @@ pub mod limits;
 pub mod listings;
 pub mod marks;
 pub mod pairs;
+pub mod relation_lines;
+pub mod relations;
 pub mod rich;
 pub mod valid;
 
@@ -33,4 +35,8 @@ pub fn look(run: &mut Run, random: &mut Random, file: &[u8], count: usize) {
     };
     let room = random.pick(&[0, 1, 50, 400]);
     let _ = run.gather(file, row, &id, room);
+    if random.one_in(8) {
+        let _ = run.relations_write(file, 50 * room);
+        let _ = run.relations_check(file, row, room);
+    }
 }

@@ -1,8 +1,8 @@
 //! A file with something of everything: every field damaged in every way, every truncation, every byte set to zero.
 
 use crate::both::Run;
-use crate::build::{Chunk, Closing, Contents, File, Times, Type};
-use crate::damage::ways;
+use crate::build::{Chunk, Closing, Contents, File, Span, Times, Type};
+use crate::damage::{ways, Way};
 use crate::generate::{with_check, MULTI_CHUNK};
 use crate::parts::look;
 use crate::random::Random;
@@ -109,6 +109,16 @@ pub fn run(run: &mut Run) {
 fn every_damage(run: &mut Run, file: &File) {
     run.part = "every damage of a rich file";
     run.case = 0;
+    each_damage(run, file, |run, random, bytes, span, way| {
+        let (reading, _) = run.read(bytes, 5);
+        let right = way.number.is_none_or(|number| number == reading.number);
+        run.demand(right, &format!("{reading:?}, not number {:?}", way.number), bytes, span.start);
+        look(run, random, bytes, reading.count);
+    });
+}
+
+/// The file with each field damaged in each way, one at a time.
+pub fn each_damage(run: &mut Run, file: &File, mut each: impl FnMut(&mut Run, &mut Random, &[u8], Span, Way)) {
     for &span in &file.spans {
         for way in ways(span) {
             run.case += 1;
@@ -117,10 +127,7 @@ fn every_damage(run: &mut Run, file: &File) {
             let mut random = Random::new(run.seed, run.part, run.case);
             let mut bytes = file.bytes.clone();
             (way.apply)(&mut bytes, span, &mut random);
-            let (reading, _) = run.read(&bytes, 5);
-            let right = way.number.is_none_or(|number| number == reading.number);
-            run.demand(right, &format!("{reading:?}, not number {:?}", way.number), &bytes, span.start);
-            look(run, &mut random, &bytes, reading.count);
+            each(run, &mut random, &bytes, span, way);
         }
     }
     run.names.truncate(1);

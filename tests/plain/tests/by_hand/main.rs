@@ -1,9 +1,10 @@
-//! Cases worked out by hand from the specification, and each number 1 to 18.
+//! Cases worked out by hand from the specification, and each number 1 to 20.
 
 mod calls;
 mod fields;
 mod padded;
 mod reading;
+mod relations;
 
 use plain::{read, Ending, Reading, Row, Serial};
 

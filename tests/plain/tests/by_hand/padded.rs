@@ -55,7 +55,8 @@ fn all_digits() {
     }
 }
 
-fn other(random: u32) -> Serial {
+/// The serial number with spaces in front of its check.
+pub fn other(random: u32) -> Serial {
     let mut other = serial(random);
     assert_eq!(&other[35..37], b"00");
     other[35..37].fill(b' ');

@@ -4,9 +4,10 @@ use mathlib.Core.Path.{sym}
 use lib.ListN.{length-set}
 use native.Mathlib.Omega.{arith}
 use borrow.Author.Needs.{needs}
+use Rattle.index.proofs.Laws.{sized}
 use Rattle.walk.proofs.Stages.{HeaderIs, header-is}
 use Rattle.walk.proofs.Index.{indexed-left}
-use Rattle.walk.proofs.Ahead.{sized, serial-given, row-is-new}
+use Rattle.walk.proofs.Ahead.{serial-given, row-is-new}
 use Rattle.walk.proofs.earlier.leave.Statement.{statement}
 use Rattle.walk.proofs.earlier.leave.Tie as tie
 

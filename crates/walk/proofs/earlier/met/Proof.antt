@@ -9,9 +9,10 @@ use borrow.Author.Tests.{eqb-true, ltb-true}
 use Rattle.metafile.specs.Bytes.{part}
 use Rattle.laws.proofs.First.{and-both}
 use Rattle.index.specs.Index.{hashOf}
+use Rattle.index.proofs.Laws.{hash-given}
 use Rattle.walk.specs.Index.{countOf, leftOf}
 use Rattle.walk.proofs.Index.{index-long, place-empty, entered-row, entered-known, entered-left}
-use Rattle.walk.proofs.Ahead.{serial-given, hash-given}
+use Rattle.walk.proofs.Ahead.{serial-given}
 use Rattle.walk.proofs.earlier.met.Statement.{statement}
 use Rattle.walk.proofs.earlier.met.Tie as tie
 

@@ -6,7 +6,8 @@ use native.Mathlib.Omega.{arith}
 use borrow.Author.Needs.{needs}
 use Rattle.metafile.specs.Bytes.{part}
 use Rattle.index.specs.Index.{hashOf}
-use Rattle.walk.proofs.Ahead.{sized, hash-given, candidate-noted, candidate-set}
+use Rattle.index.proofs.Laws.{sized, hash-given}
+use Rattle.walk.proofs.Ahead.{candidate-noted, candidate-set}
 use Rattle.walk.proofs.lookahead.candidate.Statement.{statement}
 use Rattle.walk.proofs.lookahead.candidate.Tie as tie
 

@@ -4,7 +4,7 @@ use mathlib.Core.Path.{_≡_, sym, _∙_}
 use lib.ListN.{length, length-set}
 use native.Mathlib.Omega.{arith}
 use Rattle.index.specs.Index.{size}
-use Rattle.walk.proofs.Ahead.{sized}
+use Rattle.index.proofs.Laws.{sized}
 use Rattle.walk.proofs.lookahead.clear.Statement.{statement}
 use Rattle.walk.proofs.lookahead.clear.Tie as tie
 

@@ -4,7 +4,8 @@ use native.Mathlib.Omega.{arith}
 use borrow.Author.Needs.{needs}
 use Rattle.metafile.specs.Bytes.{part}
 use Rattle.index.specs.Index.{hashOf}
-use Rattle.walk.proofs.Ahead.{sized, hash-given, before-none, before-next, before-less}
+use Rattle.index.proofs.Laws.{sized, hash-given}
+use Rattle.walk.proofs.Ahead.{before-none, before-next, before-less}
 use Rattle.walk.proofs.lookahead.lesser.Statement.{statement}
 use Rattle.walk.proofs.lookahead.lesser.Tie as tie
 

@@ -3,7 +3,7 @@ use mathlib.Core.Path.{ap, _∙_}
 use native.Mathlib.Omega.{arith}
 use borrow.Author.Needs.{needs}
 use Rattle.filter.specs.Filter.{covering}
-use Rattle.walk.proofs.Ahead.{sized, hash-given}
+use Rattle.index.proofs.Laws.{sized, hash-given}
 use Rattle.walk.proofs.lookahead.mark.Statement.{statement}
 use Rattle.walk.proofs.lookahead.mark.Tie as tie
 

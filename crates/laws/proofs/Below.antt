@@ -1,0 +1,58 @@
+-- What is asked of the numbers below n, and what they give.
+--     any-true any-cases any-none any-next   one of them passes the test, or none does
+--     Every                          a property of all elements of a list; every-join: of lists one behind the other
+-- Assumes nothing.
+use Prim.Native.Nat.{ℕ, zero, suc, _+_, _<_}
+use mathlib.Core.Bool.{Bool, true, false}
+use mathlib.Core.Path.{_≡_, refl, sym, ap, _∙_}
+use mathlib.Core.List.{List, [], _∷_, _++_}
+use native.Mathlib.Omega.{arith}
+use native.Mathlib.Numerals.{add-one}
+use lib.Dec.{eqb}
+use borrow.Author.Tests.{eqb-true, eqb-false}
+use Rattle.metafile.specs.Below.{anyBelow, joinBelow}
+use Rattle.laws.proofs.First.{test, untrue, or-true, or-left, or-right}
+
+-- ---- a test
+
+module _ (p : ℕ → Bool) where
+  pub any-true : (n k : ℕ) → k < n → p k ≡ true → anyBelow n p ≡ true
+  unfolding anyBelow
+  any-true zero k h e = absurd (omega arith)
+  any-true (suc n) k h e =
+      test (eqb k n)
+      (λ q. or-right (anyBelow n p) (p n) (sym (ap p (eqb-true k n q)) ∙ e))
+      (λ q. or-left (anyBelow n p) (p n) (any-true n k (omega (arith, eqb-false k n q)) e))
+
+  pub any-cases : {A : Type 0} (n : ℕ) → anyBelow n p ≡ true → ((k : ℕ) → k < n → p k ≡ true → A) → A
+  unfolding anyBelow
+  any-cases zero e f = untrue e
+  any-cases (suc n) e f =
+      or-true (anyBelow n p) (p n) e
+      (λ q. any-cases n q (λ k h. f k (omega arith)))
+      (λ q. f n (omega arith) q)
+
+  pub any-none : anyBelow 0 p ≡ false
+  unfolding anyBelow
+  any-none = refl
+
+  pub any-next : (n : ℕ) → anyBelow n p ≡ false → p n ≡ false → anyBelow (n + 1) p ≡ false
+  unfolding anyBelow
+  any-next n e q = rw (add-one n, e, q)
+
+-- ---- a property of all elements
+
+unfoldable pub Every : {A : Type 0} → (A → Type 0) → List A → Type 0
+Every P [] = Unit {0}
+Every P (x ∷ xs) = P x × Every P xs
+
+module _ {A : Type 0} (P : A → Type 0) where
+  pub every-append : (xs ys : List A) → Every P xs → Every P ys → Every P (xs ++ ys)
+  unfolding Every
+  every-append [] ys e f = f
+  every-append (x ∷ xs) ys e f = (e .0, every-append xs ys (e .1) f)
+
+  pub every-join : (n : ℕ) (f : ℕ → List A) → ((k : ℕ) → k < n → Every P (f k)) → Every P (joinBelow n f)
+  unfolding Every joinBelow
+  every-join zero f e = tt
+  every-join (suc n) f e = every-append (joinBelow n f) (f n) (every-join n f (λ k h. e k (omega arith))) (e n (omega arith))

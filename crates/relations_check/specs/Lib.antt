@@ -1,0 +1,7 @@
+-- What the contracts cite.
+--     Judged    verdicts by the rows so far
+--     Window    rows in a directory
+--     Outcome   what the check gives behind the row
+pub mod Judged
+pub mod Window
+pub mod Outcome

@@ -1,0 +1,49 @@
+// The rows once more, where a reading has gone through all of them: how many there are, and where the parts of each stand. No
+// index is needed then, and no chunk is judged again.
+ghost use mathlib.Core.Path.{_≡_};
+ghost use Prim.Native.Nat.{_<_};
+ghost use lib.ListN.{length};
+ghost use Rattle.metafile.specs.Reading.{rowsOf};
+ghost use Rattle.index.specs.Index.{size};
+ghost use Rattle.walk.specs.Cursor.{Behind, At};
+ghost use Rattle.walk.specs.Known.{Ended, RowPlaces};
+use crate::answers::Header;
+use crate::cursor::ALL;
+use crate::cursor::Cursor;
+use crate::cursor::next;
+use crate::rows::known_chunk;
+use crate::rows::serial_place;
+
+// Where the parts of a row's chunk stand in the file.
+pub struct Places {
+    pub serial: usize,
+    // dependency count
+    pub dependencies: usize,
+    pub end: usize,
+}
+
+// The cursor behind the last row, from a cursor on.
+pub fn last(file: &[u8], from: Cursor, index: &mut [u32]) -> Cursor
+    requires { ⌜ At (now file) from (now index) ⌝ }
+    ensures { λ r. ⌜ Ended (now (file .entry)) r × (length (now (index .exit)) ≡ size) ⌝ }
+{
+    let mut c = from;
+    while c.go {
+        c = next(file, c, ALL, index);
+    }
+    c
+}
+
+// The parts of row n, whose chunk begins at a place of the file.
+pub fn row_at(file: &[u8], h: Header, n: usize, at: usize) -> Places
+    requires { ⌜ Behind (now file) h n at ⌝ }
+    requires { ⌜ n < length (rowsOf (now file)) ⌝ }
+    ensures { λ r. ⌜ RowPlaces (now (file .entry)) h n at r ⌝ }
+{
+    let l = known_chunk(file, h, at);
+    Places {
+        serial: serial_place(file, h, at, l),
+        dependencies: l.dependencies,
+        end: at + l.end,
+    }
+}
