@@ -23,8 +23,8 @@ extern "C" {
 #endif
 
 /* The version of this header and of its library; the number is major * 1000000 + minor * 1000 + patch. */
-#define ADS_VERSION "0.6.0"
-#define ADS_VERSION_NUMBER 6000
+#define ADS_VERSION "0.7.0"
+#define ADS_VERSION_NUMBER 7000
 
 /* ---- sizes */
 
@@ -51,8 +51,9 @@ extern "C" {
 /* Bytes that ads_relations_write writes at most for a file whose rows have so many dependencies together. */
 #define ADS_RELATIONS_ROOM(dependencies) (131 + 605 * (dependencies))
 
-/* Verdicts that are enough for ads_relations_check of a row with so many bytes of contents: a relation line has at
-   least 12 bytes, and a line feed before it. */
+/* Verdicts that are enough for ads_relations_check of a row with so many bytes of contents, and for
+   ads_relations_check_latest of a file none of whose relation chunks has more: a relation line has at least 12 bytes,
+   and a line feed before it. */
 #define ADS_MOST_VERDICTS(bytes) ((bytes) / 13)
 
 /* ---- the numbers: docs/numbers.tsv */
@@ -76,16 +77,17 @@ enum {
     ADS_ROWS_FULL = 10,     /* read: another whole chunk with a new serial number, and no row left */
     ADS_LIMIT = 11,         /* every call: a lent byte buffer over 2^30, or append's length over the buffer's */
     ADS_NOT_CLEAN = 12,     /* append: the file has no bytes, or doesn't read to its end with number 0 */
-    ADS_NO_ROW = 13,        /* parent, contents, gather, relations_check: no such row; append: no such parent, repeated,
-                               or over 16 */
+    ADS_NO_ROW = 13,        /* parent, contents, gather, relations_check: no such row; relations_check_latest: no row is
+                               a relation chunk; append: no such parent, repeated, or over 16 */
     ADS_NO_DEPENDENCY = 14, /* parent: no such dependency; gather: not a MultiChunk, or the ID is undeclared */
     ADS_MARK_ZERO = 15,     /* begin, append: the mark has a zero byte */
     ADS_OPEN = 16,          /* append: open under LLC or for BIN, or the mark is first found before the data's end */
     ADS_MULTICHUNK = 17,    /* append: of a MultiChunk */
     ADS_NO_ROOM = 18,       /* begin, append, gather, relations_write, listing: the lent buffer is too short for the
-                               result; relations_check: the list is */
+                               result; relations_check, relations_check_latest: the list is */
     ADS_NOT_RELATIONS = 19, /* relations_check: the row's sub-format isn't ADS\SYS\Relations */
-    ADS_HEADING = 20        /* relations_check: the first line of the contents isn't the heading */
+    ADS_HEADING = 20        /* relations_check, relations_check_latest: the first line of the contents isn't the
+                               heading */
 };
 
 /* A number in words, for a message. */
@@ -166,6 +168,12 @@ typedef struct ads_counted {
     uint8_t number; /*  8 */
 } ads_counted;      /* 16 bytes */
 
+typedef struct ads_counted_row {
+    size_t count;   /*  0: verdicts written at the start of the list */
+    size_t row;     /*  8: the row that was checked */
+    uint8_t number; /* 16 */
+} ads_counted_row;  /* 24 bytes */
+
 typedef struct ads_parent_answer {
     size_t row;     /*  0: the row with the dependency's serial number; 0 where none is found */
     bool found;     /*  8: there is such a row; else the parent is missing */
@@ -229,6 +237,12 @@ ads_written ads_relations_write(const uint8_t *file, size_t length, uint8_t *buf
    is "ADS relation"; others are comments and get no entry. Entries past the count keep their state. Tests 11 (of the
    file alone), 13, 19, 20, 18. */
 ads_counted ads_relations_check(const uint8_t *file, size_t length, size_t row, uint32_t *verdicts, size_t room);
+
+/* The same of the relation chunk that holds: of all relation chunks of the file the one with the latest
+   Chunk_Writing_Date, and of equal dates the later row. It answers that row too. Its sum, its heading and its lines
+   aren't asked in choosing: a wrong heading is 20, whatever others there are. Tests 11 (of the file alone), 13 (no row is
+   a relation chunk, also where the file has no whole header), 20, 18. */
+ads_counted_row ads_relations_check_latest(const uint8_t *file, size_t length, uint32_t *verdicts, size_t room);
 
 /* Writes the listing of the file's table as text: header sum ("header none" of a file of no bytes), count, a line for
    each row, stop and number. An input over 65,536 bytes is no refusal: its text is "end 0 11" and LF.

@@ -77,22 +77,40 @@ def relation(*fields: str) -> str:
     return "\t".join(("ADS relation", child, child_format.ljust(256), parent, parent_format.ljust(256)))
 
 
+TEST, EDIT, GRID = "ADS\\DATA\\TEST", "ADS\\DATA\\EDIT", "ADS\\DATA\\GRID"
+
+# lines on the second chunk: two that its header declares, one that it doesn't, and one without its last tab, as
+# chapter 7 prints it
+ON_FIRST, ON_ELSEWHERE = relation(SECOND, EDIT, FIRST, TEST), relation(SECOND, EDIT, ELSEWHERE, GRID)
+UNDECLARED = relation(SECOND, EDIT, FIRST, GRID)
+MALFORMED = ON_FIRST.replace(FIRST + "\t", FIRST)
+
+
+def child_and_parent() -> bytes:
+    """Two chunks; the second depends on the first, and on one that isn't there."""
+    child = head(EDIT, parents=[Dependency(FIRST, TEST), Dependency(ELSEWHERE, GRID)])
+    return one_chunk() + plain(b"", SECOND, b"edited\n", child)
+
+
+def relation_chunk(number: str, lines: list[str], written: str = "20240301") -> bytes:
+    """A relation chunk of that writing date: the heading and these lines."""
+    heading = ("ADS Metafile Master Relation Chunk Revision 1.00", "Child serial number", "Child sub-format ID",
+               "Parent serial number", "Parent sub-format ID")
+    text = "".join(line + "\n" for line in ("\t".join(heading), *lines)).encode("ascii")
+    return plain(b"", number, text, head("ADS\\SYS\\Relations"), written=written)
+
+
 def relations() -> bytes:
-    """Two chunks, and a relation chunk: a comment, two lines that the second chunk's header declares, one that it
-    doesn't, and one without its last tab, as chapter 7 prints it."""
-    test, edit, grid = "ADS\\DATA\\TEST", "ADS\\DATA\\EDIT", "ADS\\DATA\\GRID"
-    child = head(edit, parents=[Dependency(FIRST, test), Dependency(ELSEWHERE, grid)])
-    lines = [
-        "\t".join(("ADS Metafile Master Relation Chunk Revision 1.00", "Child serial number", "Child sub-format ID",
-                   "Parent serial number", "Parent sub-format ID")),
-        "line 7, by the recorder",
-        relation(SECOND, edit, FIRST, test),
-        relation(SECOND, edit, ELSEWHERE, grid),
-        relation(SECOND, edit, FIRST, grid),
-        relation(SECOND, edit, FIRST, test).replace(FIRST + "\t", FIRST),
-    ]
-    text = "".join(line + "\n" for line in lines).encode("ascii")
-    return one_chunk() + plain(b"", SECOND, b"edited\n", child) + plain(b"", THIRD, text, head("ADS\\SYS\\Relations"))
+    """A relation chunk with a comment and each kind of line."""
+    lines = ["line 7, by the recorder", ON_FIRST, ON_ELSEWHERE, UNDECLARED, MALFORMED]
+    return child_and_parent() + relation_chunk(THIRD, lines)
+
+
+def relations_dated() -> bytes:
+    """Four relation chunks: of the two with the latest date the later one holds, and it isn't the last."""
+    chunks = [(THIRD, [UNDECLARED], "20240302"), (FOURTH, [ON_FIRST], "20240304"),
+              (serial("00049"), [ON_FIRST, ON_ELSEWHERE], "20240304"), (serial("00050"), [MALFORMED], "20240303")]
+    return child_and_parent() + b"".join(relation_chunk(*chunk) for chunk in chunks)
 
 
 def good() -> dict[str, bytes]:
@@ -105,6 +123,7 @@ def good() -> dict[str, bytes]:
         "survey": survey(),
         "padded": padded(),
         "relations": relations(),
+        "relations-dated": relations_dated(),
         "begun": header("LLC", b""),
         "bad-chunk-sum": header("LLC", b"") + plain(b"", FIRST, b"abc", off=1),
         "bad-header-sum": header("LLC", b"", off=1) + plain(b"", FIRST, b"abc"),

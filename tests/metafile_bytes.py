@@ -25,13 +25,13 @@ def line(label: str, value: str) -> bytes:
     return f"{label}={value}\n".encode("ascii")
 
 
-def closed(summed: bytes, mark: bytes, number: str, off: int = 0, fill: str = "0") -> bytes:
+def closed(summed: bytes, mark: bytes, number: str, off: int = 0, fill: str = "0", written: str = "20240301") -> bytes:
     """Bytes and their closing: mark, integrity data, mark. The sum is wrong by `off`."""
     summed += mark
     summed += line("Chunk_Serial_Number", number)
     summed += line("Chunk_Recording_Date", "20240229")
     summed += line("Chunk_Recording_Agent", "RECORDER".ljust(32))
-    summed += line("Chunk_Writing_Date", "20240301")
+    summed += line("Chunk_Writing_Date", written)
     summed += line("Chunk_Writing_Agent", "DESK".ljust(32))
     summed += b"Chunk_Integrity_Checksum="
     return summed + count((sum(summed) + off) % 256, 3, fill).encode("ascii") + b"\n" + mark
@@ -75,10 +75,10 @@ def content_length(value: int, fill: str = "0") -> bytes:
 
 
 def plain(mark: bytes, number: str, data: bytes, chunk_header: bytes = head(), is_open: bool = False,
-          off: int = 0, fill: str = "0") -> bytes:
+          off: int = 0, fill: str = "0", written: str = "20240301") -> bytes:
     """A chunk with plain contents, counted or open."""
     length = content_length(0 if is_open else len(data) + 1, fill)
-    return closed(chunk_header + length + data, mark, number, off, fill)
+    return closed(chunk_header + length + data, mark, number, off, fill, written)
 
 
 class Type(NamedTuple):

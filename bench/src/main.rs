@@ -56,10 +56,10 @@ struct Report {
 type Part = (&'static str, fn(&mut Vec<f64>) -> Report);
 
 #[rustfmt::skip]
-const PARTS: [Part; 12] = [
+const PARTS: [Part; 13] = [
     ("sums", both_sums), ("i", large), ("ii", small), ("iii", open), ("iv", mini_chunks), ("v", growth),
     ("vii", small_open), ("viii", hostile_marks), ("ix", many::growth), ("x", many::hostile),
-    ("xi", relations::relations), ("append", long_append),
+    ("xi", relations::relations), ("xii", relations::latest), ("append", long_append),
 ];
 
 type Sum = fn(&[u8]) -> u8;

@@ -1,5 +1,6 @@
 //! Relations of files of empty chunks with one dependency each: the text written, and checked as the last chunk of the file with
-//! its lines in order and shuffled, each beside a reading of the same file.
+//! its lines in order and shuffled, each beside a reading of the same file. And the check of the latest, of several relation
+//! chunks.
 
 use std::hint::black_box;
 
@@ -7,6 +8,7 @@ use compare::ffi;
 use compare::random::Random;
 use compare::relations::{chunk_with, line as relation, text, HEADING_BYTES, LINE_BYTES};
 use compare::simple::{random, Many, MISSING};
+use plain::Serial;
 
 use crate::calls::proved_rows;
 use crate::timing::turn;
@@ -27,23 +29,83 @@ pub fn relations(kept: &mut Vec<f64>) -> Report {
         let files = files(chunks);
         one_turn(kept, &files, chunks);
         for (((name, most), file), times) in CALLS.iter().zip(&files).zip(kept.chunks(3)) {
-            let readings = times[1] / times[0];
-            lines.push(line(&format!("(xi) relations {name}, {chunks}"), &times[1..], file.len(), None));
-            lines.push(format!("{:48} {readings:10.2}   readings of the file, {:.3} ms each", "", times[0] * 1e3));
-            goals.push(goal(&format!("(xi) relations {name}, {chunks} chunks, in readings"), readings, *most, false));
+            let name = format!("(xi) relations {name}, {chunks}");
+            in_readings((&mut lines, &mut goals), &name, times, file.len(), *most);
         }
     }
     Report { lines, goals }
 }
 
+/// Of a reading, the proved and the plain call: the line, and how many readings the proved one takes.
+fn in_readings(
+    (lines, goals): (&mut Vec<String>, &mut Vec<String>),
+    name: &str,
+    times: &[f64],
+    bytes: usize,
+    most: f64,
+) {
+    let readings = times[1] / times[0];
+    lines.push(line(name, &times[1..], bytes, None));
+    lines.push(format!("{:48} {readings:10.2}   readings of the file, {:.3} ms each", "", times[0] * 1e3));
+    goals.push(goal(&format!("{name} chunks, in readings"), readings, most, false));
+}
+
+/// Chunks with a dependency each, and so many relation chunks behind them.
+const DEPENDING: usize = 10_000;
+const LATEST: [usize; 3] = [1, 3, 10_000];
+
+/// (xii) The check of the latest of several relation chunks, beside a reading of the same file.
+pub fn latest(kept: &mut Vec<f64>) -> Report {
+    let (mut lines, mut goals) = (Vec::new(), Vec::new());
+    kept.resize(LATEST.len() * 3, f64::INFINITY);
+    for (&count, times) in LATEST.iter().zip(kept.chunks_mut(3)) {
+        let (file, row) = with_latest(count);
+        let mut lists = [vec![0; DEPENDING], vec![0; DEPENDING]];
+        let [for_proved, for_plain] = &mut lists;
+        let checked = Ok((DEPENDING, row));
+        turn(
+            times,
+            &mut [
+                (20, &mut proved_rows(&file, DEPENDING + count)),
+                (20, &mut || assert_eq!(ffi::relations_check_latest(black_box(&file), for_proved).row, row)),
+                (20, &mut || assert_eq!(plain::relations_check_latest(black_box(&file), for_plain), checked)),
+            ],
+        );
+        assert!(lists.iter().all(|list| list.iter().all(|&verdict| verdict == plain::DECLARED)));
+        let name = format!("(xii) relations checked, latest of {count}");
+        in_readings((&mut lines, &mut goals), &name, times, file.len(), 5.0);
+    }
+    Report { lines, goals }
+}
+
+/// The relation chunk in the middle is the latest and has the text for the file; the others have a heading alone. Answers its
+/// row too.
+fn with_latest(count: usize) -> (Vec<u8>, usize) {
+    let serials = random(DEPENDING + count - 1);
+    let (mut file, lines) = depending(&serials[..DEPENDING]);
+    let mut others = Many::relations(&serials[DEPENDING..]);
+    for row in 0..count - 1 {
+        others.date(row, b"20240229");
+    }
+    let half = count / 2;
+    file.extend(&others.bytes[others.header..others.place(half)]);
+    file.extend(chunk_with(MISSING, &[], text(&lines)));
+    file.extend(&others.bytes[others.place(half)..]);
+    (file, DEPENDING + half)
+}
+
+/// A file of chunks with a dependency each, and the lines of its relations.
+fn depending(serials: &[Serial]) -> (Vec<u8>, Vec<Vec<u8>>) {
+    let parent = |row: usize| (row * 7_919 + 3) % serials.len();
+    let name = b"ADS\\DATA\\TEST";
+    let lines =
+        serials.iter().enumerate().map(|(row, child)| relation(child, name, &serials[parent(row)], name)).collect();
+    (Many::depending(serials, parent).bytes, lines)
+}
+
 /// The file; with the text for it in a chunk behind; and with its lines shuffled.
 fn files(chunks: usize) -> [Vec<u8>; 3] {
-    let serials = random(chunks);
-    let parent = |row: usize| (row * 7_919 + 3) % chunks;
-    let name = b"ADS\\DATA\\TEST";
-    let mut lines: Vec<Vec<u8>> =
-        serials.iter().enumerate().map(|(row, child)| relation(child, name, &serials[parent(row)], name)).collect();
-    let file = Many::depending(&serials, parent).bytes;
+    let (file, mut lines) = depending(&random(chunks));
     let with = |lines: &[Vec<u8>]| [&file[..], &chunk_with(MISSING, &[], text(lines))].concat();
     let in_order = with(&lines);
     Random::new(1, "shuffled lines", 0).shuffle(&mut lines);

@@ -12,7 +12,7 @@ from . import _relations, _rows
 from ._library import MOST_BYTES, Text, accepted, call, size, text
 from ._memory import BytesLike, Lent, anonymous, view
 from ._numbers import WORDS
-from ._relations import Verdict
+from ._relations import Checked, Verdict
 from ._rows import Record, Row, most_rows
 
 _LISTING_ROOM = 10240
@@ -200,6 +200,19 @@ class File:
         """
         row = size(row, "row")
         return _relations.verdicts_of(self._bytes(), row, self[row].bytes if row < self._count else 0)
+
+    def relations_check_latest(self) -> Checked:
+        """The same of the relation chunk that holds, with its row: the one with the latest writing date, and of equal
+        dates the later row. Its sum and its heading aren't asked in choosing.
+
+        Refused with 13 where no row is a relation chunk, with 20 where the heading line of the one that holds differs.
+
+        >>> import ads_metafile
+        >>> ads_metafile.read(b"").relations_check_latest()
+        Traceback (most recent call last):
+        ads_metafile._numbers.Refused: refused with 13 (no such row)
+        """
+        return _relations.latest_of(self._bytes(), max((record[4] for record in self.records()), default=0))
 
     # ---- the whole table
 

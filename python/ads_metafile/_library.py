@@ -19,8 +19,8 @@ Text: TypeAlias = str | bytes
 
 MOST_BYTES = 2**30
 SONAME = "libads.so.0"
-VERSION_NODE = "ADS_0.6"
-NEWEST = "ads_relations_write"
+VERSION_NODE = "ADS_0.7"
+NEWEST = "ads_relations_check_latest"
 """The version that the package needs, and a function that has it."""
 _REMEDY = f"run `make` in the repository, or set ADS_LIBRARY to the path of {SONAME}"
 
@@ -41,6 +41,10 @@ class Written(Structure):
 
 class Counted(Structure):
     _fields_ = [("count", c_size_t), ("number", c_uint8)]
+
+
+class CountedRow(Structure):
+    _fields_ = [("count", c_size_t), ("row", c_size_t), ("number", c_uint8)]
 
 
 class ParentAnswer(Structure):
@@ -84,6 +88,7 @@ _SIGNATURES: dict[str, tuple[Any, ...]] = {
     "ads_gather": (Written, *_LENT, c_size_t, *_TEXT, *_LENT),
     "ads_relations_write": (Written, *_LENT, *_LENT),
     "ads_relations_check": (Counted, *_LENT, c_size_t, *_LENT),
+    "ads_relations_check_latest": (CountedRow, *_LENT, *_LENT),
     "ads_listing": (Written, *_LENT, *_LENT),
     "ads_append": (Ends, *_LENT, c_size_t, DescriptionStruct, *_LENT, *_LENT, *_LENT, c_bool),
     "ads_description_new": (DescriptionStruct,),

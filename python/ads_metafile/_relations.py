@@ -5,6 +5,7 @@ from __future__ import annotations
 
 import struct
 from enum import Enum
+from typing import Any, NamedTuple
 
 from ._library import MOST_BYTES, accepted
 from ._memory import Lent, anonymous
@@ -30,6 +31,13 @@ class Verdict(Enum):
         return self.name.lower()
 
 
+class Checked(NamedTuple):
+    """The row of the relation chunk that holds, and what is said of each of its relation lines."""
+
+    row: int
+    verdicts: list[Verdict]
+
+
 _VERDICTS = {each.value: each for each in Verdict}
 
 
@@ -48,7 +56,18 @@ def text_of(data: memoryview, dependencies: int) -> bytes:
 
 def verdicts_of(data: memoryview, row: int, length: int) -> list[Verdict]:
     """The verdicts on a row whose contents have that many bytes."""
+    return _checked("ads_relations_check", data, (row,), length)[1]
+
+
+def latest_of(data: memoryview, longest: int) -> Checked:
+    """The row that holds and the verdicts on it, in a file in which no row's contents have more bytes."""
+    answer, verdicts = _checked("ads_relations_check_latest", data, (), longest)
+    return Checked(answer.row, verdicts)
+
+
+def _checked(name: str, data: memoryview, row: tuple[int, ...], length: int) -> tuple[Any, list[Verdict]]:
+    """The answer of a check and its verdicts, into a list for contents of that many bytes."""
     room = length // _SHORTEST_LINE
     buffer = anonymous(room * 4)
-    answer = accepted("ads_relations_check", Lent(data), data.nbytes, row, Lent(buffer, writable=True), room)
-    return [_VERDICTS[number] for number, in struct.iter_unpack("=I", buffer[:answer.count * 4])]
+    answer = accepted(name, Lent(data), data.nbytes, *row, Lent(buffer, writable=True), room)
+    return answer, [_VERDICTS[number] for number, in struct.iter_unpack("=I", buffer[:answer.count * 4])]

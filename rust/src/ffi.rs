@@ -22,6 +22,13 @@ pub struct Counted {
 }
 
 #[repr(C)]
+pub struct CountedRow {
+    pub count: usize,
+    pub row: usize,
+    pub number: u8,
+}
+
+#[repr(C)]
 pub struct Parent {
     pub row: usize,
     pub found: bool,
@@ -74,6 +81,7 @@ extern "C" {
     ) -> Written;
     pub fn ads_relations_write(file: *const u8, length: usize, buffer: *mut u8, buffer_length: usize) -> Written;
     pub fn ads_relations_check(file: *const u8, length: usize, row: usize, verdicts: *mut u32, room: usize) -> Counted;
+    pub fn ads_relations_check_latest(file: *const u8, length: usize, verdicts: *mut u32, room: usize) -> CountedRow;
     pub fn ads_listing(input: *const u8, length: usize, buffer: *mut u8, buffer_length: usize) -> Written;
     pub fn ads_append(
         buffer: *mut u8,

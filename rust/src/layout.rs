@@ -19,6 +19,7 @@ const _: () = assert!(size_of::<Ending>() == 1);
 layout!(ffi::Reading, 24: count 0, stop 8, good 16, number 17);
 layout!(ffi::Written, 16: length 0, number 8);
 layout!(ffi::Counted, 16: count 0, number 8);
+layout!(ffi::CountedRow, 24: count 0, row 8, number 16);
 layout!(ffi::Parent, 16: row 0, found 8, agree 9, number 10);
 layout!(ffi::Ends, 32: first 0, second 8, third 16, number 24);
 layout!(ffi::Part, 24: place 0, bytes 8, number 16);

@@ -15,7 +15,7 @@ pub use answers::{Ending, Ends, Parent, Reading, Row, Table};
 pub use description::Description;
 pub use reading::{contents, gather, listing, parent, read, read_all};
 pub use refusal::Refusal;
-pub use relations::{relations_check, relations_write, Verdict};
+pub use relations::{relations_check, relations_check_latest, relations_write, Checked, Verdict};
 pub use sizes::{append_room, begin_room, most_rows, most_verdicts, relations_room};
 pub use sizes::{LISTING_ROOM, MOST_BYTES, MOST_MARK, MOST_PARENTS, SERIAL_COMPARED, STACK_BYTES};
 pub use writing::{append, begin, Header};

@@ -82,8 +82,9 @@ refusals! {
     /// By [`append`](crate::append).
     NotClean = 12, "the file isn't clean";
     /// By [`parent`](crate::parent), [`contents`](crate::contents), [`gather`](crate::gather) and
-    /// [`relations_check`](crate::relations_check), and by [`append`](crate::append) of the parents, also where one is
-    /// repeated or there are over 16.
+    /// [`relations_check`](crate::relations_check), by [`relations_check_latest`](crate::relations_check_latest) where no
+    /// row is a relation chunk, and by [`append`](crate::append) of the parents, also where one is repeated or there are
+    /// over 16.
     NoRow = 13, "no such row";
     /// By [`parent`](crate::parent), of the dependency, and [`gather`](crate::gather), of the rest.
     NoDependency = 14, "no such dependency, not a MultiChunk, or the short ID is undeclared";
@@ -95,11 +96,12 @@ refusals! {
     Multichunk = 17, "a MultiChunk can't be appended";
     /// By [`begin`](crate::begin), [`append`](crate::append), [`gather`](crate::gather),
     /// [`relations_write`](crate::relations_write) and [`listing`](crate::listing), and by
-    /// [`relations_check`](crate::relations_check) of its list.
+    /// [`relations_check`](crate::relations_check) and [`relations_check_latest`](crate::relations_check_latest) of
+    /// their list.
     NoRoom = 18, "the buffer or list is too short for the result";
     /// By [`relations_check`](crate::relations_check).
     NotRelations = 19, "the row isn't a relation chunk";
-    /// By [`relations_check`](crate::relations_check).
+    /// By [`relations_check`](crate::relations_check) and [`relations_check_latest`](crate::relations_check_latest).
     Heading = 20, "the heading line of the relation chunk differs";
 }
 

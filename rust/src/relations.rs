@@ -86,3 +86,31 @@ pub fn relations_check(file: &[u8], row: usize, verdicts: &mut [u32]) -> Result<
         unsafe { ffi::ads_relations_check(file.as_ptr(), file.len(), row, verdicts.as_mut_ptr(), verdicts.len()) };
     unless_refused(answer.number, answer.count)
 }
+
+/// What [`relations_check_latest`] answers beside the verdicts.
+#[derive(Clone, Copy, Debug, PartialEq, Eq, Hash)]
+pub struct Checked {
+    /// The row that holds, which was checked.
+    pub row: usize,
+    /// Verdicts written at the start of the list.
+    pub count: usize,
+}
+
+/// As [`relations_check`], of the relation chunk that holds: the one with the latest writing date, and of equal dates the later
+/// row. Its sum and its heading aren't asked in choosing. [`Refusal::NoRow`] where no row is a relation chunk. As many entries as
+/// [`most_verdicts`](crate::most_verdicts) says of the longest contents of any row are enough.
+///
+/// ```
+/// use ads::Checked;
+///
+/// let file = std::fs::read("../samples/relations-dated.ads")?;
+/// let longest = ads::read_all(&file).rows.iter().map(|row| row.bytes).max().unwrap_or(0);
+/// let mut list = vec![0; ads::most_verdicts(longest)];
+/// assert_eq!(ads::relations_check_latest(&file, &mut list)?, Checked { row: 4, count: 2 });
+/// # Ok::<(), Box<dyn std::error::Error>>(())
+/// ```
+pub fn relations_check_latest(file: &[u8], verdicts: &mut [u32]) -> Result<Checked, Refusal> {
+    let answer =
+        unsafe { ffi::ads_relations_check_latest(file.as_ptr(), file.len(), verdicts.as_mut_ptr(), verdicts.len()) };
+    unless_refused(answer.number, Checked { row: answer.row, count: answer.count })
+}

@@ -53,8 +53,9 @@ pub const fn relations_room(dependencies: usize) -> usize {
     131 + 605 * dependencies
 }
 
-/// Verdicts that are enough for [`relations_check`](crate::relations_check) of a row with so many bytes of contents: a
-/// relation line has at least 12 bytes, and a line feed before it.
+/// Verdicts that are enough for [`relations_check`](crate::relations_check) of a row with so many bytes of contents, and for
+/// [`relations_check_latest`](crate::relations_check_latest) of a file none of whose rows has more: a relation line has at least
+/// 12 bytes, and a line feed before it.
 ///
 /// ```
 /// assert_eq!(ads::most_verdicts(131 + 605), 56);

@@ -1,5 +1,5 @@
 //! The sample of the specification, and one answer of each kind from every call.
-use ads::{Description, Ending, Ends, Header, Parent, Refusal, Row, Verdict};
+use ads::{Checked, Description, Ending, Ends, Header, Parent, Refusal, Row, Verdict};
 
 const HEADER: Header = Header {
     strategy: b"LLC",
@@ -254,6 +254,27 @@ fn relations() {
     }
 }
 
+/// "the latest Chunk_Writing_Date, and of equal dates the later row"; a row that is named is checked, whichever holds.
+#[test]
+fn relations_of_the_latest() {
+    let file = include_bytes!("../../samples/relations-dated.ads");
+    let mut verdicts = [7; 3];
+    assert_eq!(ads::relations_check_latest(file, &mut verdicts), Ok(Checked { row: 4, count: 2 }));
+    assert_eq!(verdicts, [1, 1, 7]);
+    assert_eq!(ads::relations_check(file, 2, &mut verdicts), Ok(1));
+    assert_eq!(verdicts, [2, 1, 7]);
+    assert_eq!(ads::relations_check_latest(file, &mut verdicts[..1]), Err(Refusal::NoRoom));
+    // the heading of the one that holds
+    let place = ads::read_all(file).rows[4].contents;
+    let mut renamed = *file;
+    renamed[place] = b'a';
+    assert_eq!(ads::relations_check_latest(&renamed, &mut verdicts), Err(Refusal::Heading));
+    for none in [&b""[..], &file[..100], include_bytes!("../../samples/two-chunks.ads")] {
+        assert_eq!(ads::relations_check_latest(none, &mut verdicts), Err(Refusal::NoRow));
+    }
+    assert_eq!(verdicts, [2, 1, 7]);
+}
+
 /// Appended to the file that it was written for, each line of the text is declared.
 #[test]
 fn relations_appended() {
@@ -267,4 +288,6 @@ fn relations_appended() {
     let mut verdicts = [0; 1];
     assert_eq!(ads::relations_check(&buffer[..ends.third], 2, &mut verdicts), Ok(1));
     assert_eq!(Verdict::from_number(verdicts[0]), Some(Verdict::Declared));
+    let latest = ads::relations_check_latest(&buffer[..ends.third], &mut verdicts);
+    assert_eq!(latest, Ok(Checked { row: 2, count: 1 }));
 }

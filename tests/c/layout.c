@@ -41,6 +41,11 @@ SIZE(ads_counted, 16);
 PLACE(ads_counted, count, 0);
 PLACE(ads_counted, number, 8);
 
+SIZE(ads_counted_row, 24);
+PLACE(ads_counted_row, count, 0);
+PLACE(ads_counted_row, row, 8);
+PLACE(ads_counted_row, number, 16);
+
 SIZE(ads_parent_answer, 16);
 PLACE(ads_parent_answer, row, 0);
 PLACE(ads_parent_answer, found, 8);

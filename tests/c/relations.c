@@ -1,5 +1,5 @@
-/* The relations of a file, from C: prints how many lines a relation chunk for it would have, and for each relation chunk
-   that it has what is said of its lines. From the repository's root, after `make`:
+/* The relations of a file, from C: prints how many lines a relation chunk for it would have, for each relation chunk that
+   it has what is said of its lines, and the same of the one that holds. From the repository's root, after `make`:
      gcc -Wall -Wextra -Werror -Iinclude tests/c/relations.c target/staticlib/libads.a -o target/relations
      target/relations samples/relations.ads
    It is C++ as well. */
@@ -13,14 +13,13 @@ static uint8_t file[MOST];
 static uint8_t text[MOST];
 static uint32_t verdicts[ADS_MOST_VERDICTS(MOST)];
 
-static void print_verdicts(size_t row, ads_counted answer)
+static void print_verdicts(size_t count, uint8_t number)
 {
     static const char *const words[] = {"declared", "undeclared", "malformed"};
-    printf("row %zu:", row);
-    for (size_t line = 0; line < answer.count; line++)
+    for (size_t line = 0; line < count; line++)
         printf(" %s", words[verdicts[line] - ADS_DECLARED]);
-    if (answer.number != ADS_OK)
-        printf(" refused with %d (%s)", answer.number, ads_words(answer.number));
+    if (number != ADS_OK)
+        printf(" refused with %d (%s)", number, ads_words(number));
     printf("\n");
 }
 
@@ -49,8 +48,17 @@ int main(int count, char **names)
     size_t there = ads_read(file, length, rows, ADS_MOST_ROWS(MOST)).count;
     for (size_t row = 0; row < there; row++) {
         ads_counted answer = ads_relations_check(file, length, row, verdicts, ADS_MOST_VERDICTS(MOST));
-        if (answer.number != ADS_NOT_RELATIONS)
-            print_verdicts(row, answer);
+        if (answer.number == ADS_NOT_RELATIONS)
+            continue;
+        printf("row %zu:", row);
+        print_verdicts(answer.count, answer.number);
     }
+
+    ads_counted_row latest = ads_relations_check_latest(file, length, verdicts, ADS_MOST_VERDICTS(MOST));
+    if (latest.number == ADS_OK)
+        printf("row %zu holds:", latest.row);
+    else
+        printf("the latest:");
+    print_verdicts(latest.count, latest.number);
     return 0;
 }

@@ -7,6 +7,7 @@ library is asked.
 import re
 import unittest
 from collections.abc import Iterator, Mapping
+from datetime import date
 from pathlib import Path
 from typing import NamedTuple
 
@@ -197,6 +198,14 @@ class Numbers(unittest.TestCase):
 
 
 class WorkedExamples(unittest.TestCase):
+    def test_day_numbers(self) -> None:
+        """Python counts days alike."""
+        paragraph = WORDS.split("A date has a **day number**")[1].split("no call answers it")[0]
+        numbers = re.findall(r"`(\d{4})(\d\d)(\d\d)` (?:is )?day (\d+)", paragraph)
+        self.assertEqual(len(numbers), 6)
+        for year, month, day, number in numbers:
+            self.assertEqual(date(int(year), int(month), int(day)).toordinal(), int(number))
+
     def test_the_heading_of_a_relation_chunk(self) -> None:
         sentence = WORDS.split("The first line is the heading, 131 bytes with its LF: the texts ")[1].split(". A line")[0]
         heading = "\t".join(re.findall(r"`([^`]+)`", sentence)) + "\n"

@@ -264,23 +264,24 @@ class Linked(Case):
             self.assertIn("\n1 rows, clean\n", printed)
         self.run_quietly("gcc", "-Iinclude", ROOT / "tests/c/relations.c", now / "libads.so.0",
                          "-o", self.folder / "relations")
-        for program, node in (("linked-lib", "ADS_0.4"), ("relations", "ADS_0.6")):
+        for program, node in (("linked-lib", "ADS_0.4"), ("relations", "ADS_0.6"), ("relations", "ADS_0.7")):
             refused = self.run_quietly(self.folder / program, check=False, LD_LIBRARY_PATH=str(before))
             self.assertNotEqual(refused.returncode, 0)
             self.assertIn(f"version `{node}' not found", refused.stderr)
 
     def test_names_of_the_shared_library(self) -> None:
-        """The functions of the header are visible, ads_read under two versions, relations under a later one; nothing
+        """The functions of the header are visible, ads_read under two versions, relations under later ones; nothing
         else is."""
         library = self.checkout / "target/lib/libads.so.0"
         listed = self.run_quietly("nm", "-D", "--defined-only", library).stdout.split("\n")
         visible = {line.split()[-1] for line in listed if line and line.split()[1] != "A"}
         declared = set(re.findall(r"^(?!static)\w+ (ads_\w+)\(", HEADER, re.MULTILINE))
         relations = {"ads_relations_write", "ads_relations_check"}
-        named = {f"{name}@@ADS_0.2" for name in declared - relations - {"ads_read"}}
+        latest = "ads_relations_check_latest"
+        named = {f"{name}@@ADS_0.2" for name in declared - relations - {"ads_read", latest}}
         named |= {f"{name}@@ADS_0.6" for name in relations}
-        self.assertEqual(visible, named | {"ads_read@@ADS_0.4", "ads_read@ADS_0.2"})
-        self.assertEqual(len(declared), 23)
+        self.assertEqual(visible, named | {"ads_read@@ADS_0.4", "ads_read@ADS_0.2", f"{latest}@@ADS_0.7"})
+        self.assertEqual(len(declared), 24)
         dynamic = self.run_quietly("readelf", "-dlW", library).stdout
         self.assertIn("Library soname: [libads.so.0]", dynamic)
         self.assertRegex(dynamic, r"GNU_STACK .* RW ")

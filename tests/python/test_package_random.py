@@ -13,7 +13,7 @@ from ads_metafile import Refused
 
 STRANGE: tuple[Any, ...] = (None, True, -1, 0, 1, 2**63, 2**64 - 1, 2**64, 10**40, 1.5, "", "P2/91", "\0", "ü", b"",
                             b"\xff" * 99, bytearray(b"x"), memoryview(b"abcdef")[::2], [], [-1], (1, 2), {}, object())
-FILES = ("survey.ads", "relations.ads")
+FILES = ("survey.ads", "relations.ads", "relations-dated.ads")
 EXPECTED = (Refused, TypeError, ValueError, BufferError, LookupError)
 
 
@@ -38,7 +38,7 @@ class Random(unittest.TestCase):
             for row in range(len(file) + 2):
                 for ask in (lambda: file.parents(row), lambda: file.parent(row, self.random.randrange(3)),
                             lambda: bytes(file.contents(row)), lambda: file.gather(row, "P2/91"),
-                            lambda: file.relations_check(row)):
+                            lambda: file.relations_check(row), file.relations_check_latest):
                     try:
                         ask()
                     except Refused as refused:

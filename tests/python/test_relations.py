@@ -1,4 +1,5 @@
-r"""Relation chunks (ADS\SYS\Relations): `File.relations_write`, `File.relations_check` and `ads relations`.
+r"""Relation chunks (ADS\SYS\Relations): `File.relations_write`, `relations_check`, `relations_check_latest` and
+`ads relations`.
 
 What is right in a line, the library says, and tests/compare shows it; here is what package and command make of that.
 """
@@ -17,6 +18,7 @@ import ads_metafile
 from ads_metafile import Refused, Verdict, _relations
 
 SAMPLE = REPOSITORY / "samples" / "relations.ads"
+DATED = REPOSITORY / "samples" / "relations-dated.ads"
 SUB_FORMAT = "ADS\\SYS\\Relations"
 HEADING = (b"ADS Metafile Master Relation Chunk Revision 1.00\tChild serial number\tChild sub-format ID\t"
            b"Parent serial number\tParent sub-format ID\n")
@@ -29,9 +31,9 @@ def line(child: int, parent: int, sub_format: str = "ADS\\DATA\\TEST") -> bytes:
     return "\t".join(fields).encode("ascii") + b"\n"
 
 
-def with_contents(data: bytes, contents: bytes) -> bytes:
+def with_contents(data: bytes, contents: bytes, number: int = 60_000, written: str = "20240301") -> bytes:
     """The file and a relation chunk behind it."""
-    return data + plain(b"", serial(60_000), contents, head(SUB_FORMAT))
+    return data + plain(b"", serial(number), contents, head(SUB_FORMAT), written=written)
 
 
 class Package(unittest.TestCase):
@@ -68,6 +70,30 @@ class Package(unittest.TestCase):
                 file.relations_check(0)
             self.assertEqual(str(caught.exception), "refused with 20 (the heading line of the relation chunk differs)")
 
+    def test_the_latest(self) -> None:
+        """The latest writing date, and of equal dates the later row; a named row is checked, whichever holds."""
+        with ads_metafile.open(DATED) as file:
+            latest = file.relations_check_latest()
+            self.assertEqual(latest, (4, [DECLARED] * 2))
+            self.assertEqual((latest.row, latest.verdicts), latest)
+            self.assertEqual([file.relations_check(row) for row in range(2, 6)],
+                             [[UNDECLARED], [DECLARED], [DECLARED] * 2, [MALFORMED]])
+        contents = [HEADING + b"ADS relation\n" * lines for lines in range(3)]
+        for dates, row in ((("20231231", "20240101", "20240229"), 3), (("20240301", "20240229", "20240301"), 3),
+                           (("20240301", "20240229", "20231231"), 1), (("20240101", "20240101", "20231231"), 2)):
+            data = made(b"first")
+            for lines, written in enumerate(dates):
+                data = with_contents(data, contents[lines], 60_000 + lines, written)
+            with ads_metafile.read(data) as file:
+                self.assertEqual(file.relations_check_latest(), (row, [MALFORMED] * (row - 1)))
+
+    def test_the_latest_refused(self) -> None:
+        wrong = with_contents(with_contents(begun(), HEADING), HEADING[1:], 60_001, "20240302")
+        for data, number in ((b"", 13), (b"x", 13), (begun(), 13), (made(b"first"), 13), (wrong, 20)):
+            with ads_metafile.read(data) as file, self.assertRaises(Refused) as caught:
+                file.relations_check_latest()
+            self.assertEqual(caught.exception.number, number)
+
     def test_a_text_over_the_limit(self) -> None:
         """The buffer is never longer than the library takes; then the text doesn't fit."""
         with ads_metafile.open(SAMPLE) as file, mock.patch.object(_relations, "MOST_BYTES", 131 + 604):
@@ -83,6 +109,7 @@ class Package(unittest.TestCase):
             done = ads_metafile.append(data, description(50, sub_format=SUB_FORMAT), text, parents=[0], open=is_open)
             with ads_metafile.read(done.data) as file:
                 self.assertEqual((file.relations_check(3), file.relations_write()), ([DECLARED] * 2, text))
+                self.assertEqual(file.relations_check_latest(), (3, [DECLARED] * 2))
 
     def test_many(self) -> None:
         data = many(2_000) + plain(b"", serial(60_001), b"", head(parents=[
@@ -164,10 +191,28 @@ class Command(CommandTest):
                          "ads: b.ads: refused with 20 (the heading line of the relation chunk differs): row 0; "
                          "`ads contents` shows it\n")
 
+    def test_the_check_of_the_latest(self) -> None:
+        self.path("dated.ads", DATED.read_bytes())
+        self.assertEqual(self.expect(0, "relations", "dated.ads", "--check", "latest").lines, [
+            "0 declared", "1 declared", "row 4: 2 relation lines: 2 declared, 0 undeclared, 0 malformed"])
+        self.assertEqual(self.expect(1, "relations", "dated.ads", "--check", "5").lines, [
+            "0 malformed", "1 relation line: 0 declared, 0 undeclared, 1 malformed"])
+        self.assertEqual(self.expect(1, "relations", "a.ads", "--check=latest").lines[-1],
+                         "row 2: 4 relation lines: 2 declared, 1 undeclared, 1 malformed")
+        for data, said in ((b"", "13 (no such row): the file has no relation chunk"),
+                           (made(b"first"), "13 (no such row): the file has no relation chunk"),
+                           (with_contents(begun(), b""), "20 (the heading line of the relation chunk differs): that of "
+                            "the latest one")):
+            self.path("b.ads", data)
+            ended = self.expect(1, "relations", "b.ads", "--check", "latest")
+            self.assertEqual((ended.output, ended.errors), ("", f"ads: b.ads: refused with {said}\n"))
+
     def test_usage(self) -> None:
         for arguments, said in ((("--check", "2", "--write", "b"), "not allowed with argument"),
                                 (("--check", "-1"), "isn't a row number: rows count from 0"),
-                                (("--check", "x"), "isn't a row number: rows count from 0"),
+                                (("--check", "x"), "rows count from 0; latest is the one that holds"),
+                                (("--check", "LATEST"), "isn't a row number"),
+                                (("--check", "latest", "--write", "b"), "not allowed with argument"),
                                 (("2",), "unrecognized arguments: 2")):
             self.assertIn(said, self.expect(2, "relations", "a.ads", *arguments).errors)
         self.assertEqual(self.expect(3, "relations", "lost.ads").errors, "ads: lost.ads: no such file\n")

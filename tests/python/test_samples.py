@@ -20,7 +20,7 @@ import make  # noqa: E402
 import listings  # noqa: E402
 from support import begun, description  # noqa: E402
 
-MOST_BYTES = 80_000
+MOST_BYTES = 90_000
 
 
 class Told(NamedTuple):

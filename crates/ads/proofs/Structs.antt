@@ -16,14 +16,15 @@ use Rattle.metafile.specs.Begin.{BeginGiven, begin}
 use Rattle.metafile.specs.Append.{Given, append}
 use Rattle.metafile.specs.Reading.{rowsOf}
 use Rattle.metafile.specs.Calls.{parentTests, parentRow, agree, parent, gather}
-use Rattle.metafile.specs.Relations.{relationsWrite, relationsCheck}
+use Rattle.metafile.specs.Relations.{relationsWrite, relationsCheck, relationsRow, withRow, relationsCheckLatest}
 use Rattle.laws.proofs.First.{untrue}
 use Rattle.listing_text.specs.Text.{listingOutcome}
 use Rattle.ads.specs.declared.answers.Written.{Written}
 use Rattle.ads.specs.declared.answers.Counted.{Counted}
+use Rattle.ads.specs.declared.answers.CountedRow.{CountedRow}
 use Rattle.ads.specs.declared.answers.Parent.{Parent}
 use Rattle.ads.specs.declared.answers.Ends.{Ends}
-use Rattle.ads.specs.Answers.{writtenAnswer, writtenAlone, countedAnswer, countedAlone, parentAnswer, parentAlone, endsAnswer, endsAlone}
+use Rattle.ads.specs.Answers.{writtenAnswer, writtenAlone, countedAnswer, countedAlone, countedRowAnswer, countedRowAlone, parentAnswer, parentAlone, endsAnswer, endsAlone}
 
 -- ---- a refused call's number is not 0
 
@@ -42,11 +43,14 @@ answer-chosen zero buffer done = refl
 answer-chosen (suc k) buffer done = refl
 
 -- of a call that writes
+answers-numbered : (ts : List Test) (buffer : List ℕ) (done : Outcome) → isResult (done .answer) ≡ true
+    → (n : ℕ) → refused n ≡ unlessRefused ts buffer done .answer → n ≡ 0 → ⊥
+unfolding unlessRefused
+answers-numbered ts buffer done t n e = numbered (firstRefusal ts) n (done .answer) t (e ∙ answer-chosen (firstRefusal ts) buffer done)
+
 writes-numbered : (ts : List Test) (buffer : List ℕ) (done : Outcome) → isResult (done .answer) ≡ true
     → (n : ℕ) (after : List ℕ) → outcome (refused n) after ≡ unlessRefused ts buffer done → n ≡ 0 → ⊥
-unfolding unlessRefused
-writes-numbered ts buffer done t n after e =
-    numbered (firstRefusal ts) n (done .answer) t (ap (λ (o : Outcome). o .answer) e ∙ answer-chosen (firstRefusal ts) buffer done)
+writes-numbered ts buffer done t n after e = answers-numbered ts buffer done t n (ap (λ (o : Outcome). o .answer) e)
 
 pub begin-numbered : (g : BeginGiven) (buffer : List ℕ) (n : ℕ) (after : List ℕ) → outcome (refused n) after ≡ begin g buffer → n ≡ 0 → ⊥
 unfolding begin isResult
@@ -67,6 +71,17 @@ relations-write-numbered file buffer n after e = writes-numbered _ buffer _ refl
 pub relations-check-numbered : (file : List ℕ) (k : ℕ) (list : List ℕ) (n : ℕ) (after : List ℕ) → outcome (refused n) after ≡ relationsCheck file k list → n ≡ 0 → ⊥
 unfolding relationsCheck isResult
 relations-check-numbered file k list n after e = writes-numbered _ list _ refl n after e
+
+-- the row is added to a result alone
+refused-first : (k n : ℕ) (a : Answer) → refused n ≡ withRow k a → refused n ≡ a
+unfolding withRow isResult
+refused-first k n (result vs) e = untrue (ap isResult e)
+refused-first k n (refused m) e = e
+
+pub relations-latest-numbered : (file list : List ℕ) (n : ℕ) (after : List ℕ) → outcome (refused n) after ≡ relationsCheckLatest file list → n ≡ 0 → ⊥
+unfolding relationsCheckLatest relationsCheck isResult
+relations-latest-numbered file list n after e =
+    answers-numbered _ list _ refl n (refused-first (relationsRow file) n _ (ap (λ (o : Outcome). o .answer) e))
 
 pub listing-numbered : (input buffer : List ℕ) (n : ℕ) (after : List ℕ) → outcome (refused n) after ≡ listingOutcome input buffer → n ≡ 0 → ⊥
 unfolding listingOutcome isResult
@@ -109,6 +124,17 @@ module _ (after : List ℕ) (o : Outcome) where
   unfolding countedAnswer choose
   counted-refused zero h e = absurd (h refl)
   counted-refused (suc n) h e = (e, refl)
+
+  pub counted-row-done : (k r : ℕ) → outcome (result (k ∷ r ∷ [])) after ≡ o
+      → let w : CountedRow = record { count = k; row = r; number = 0 } in (outcome (countedRowAnswer w) after ≡ o) × (w ≡ choose 0 w countedRowAlone)
+  unfolding countedRowAnswer choose
+  counted-row-done k r e = (e, refl)
+
+  pub counted-row-refused : (n : ℕ) → (n ≡ 0 → ⊥) → outcome (refused n) after ≡ o
+      → (outcome (countedRowAnswer (countedRowAlone n)) after ≡ o) × (countedRowAlone n ≡ choose n (countedRowAlone n) countedRowAlone)
+  unfolding countedRowAnswer choose
+  counted-row-refused zero h e = absurd (h refl)
+  counted-row-refused (suc n) h e = (e, refl)
 
   pub ends-done : (a b c : ℕ) → outcome (result (a ∷ b ∷ c ∷ [])) after ≡ o
       → let w : Ends = record { first = a; second = b; third = c; number = 0 } in (outcome (endsAnswer w) after ≡ o) × (w ≡ choose 0 w endsAlone)

@@ -7,6 +7,7 @@ use Rattle.metafile.specs.Bytes.{choose}
 use Rattle.metafile.specs.Answers.{Answer, result, refused, flag}
 use Rattle.ads.specs.declared.answers.Written.{Written}
 use Rattle.ads.specs.declared.answers.Counted.{Counted}
+use Rattle.ads.specs.declared.answers.CountedRow.{CountedRow}
 use Rattle.ads.specs.declared.answers.Parent.{Parent}
 use Rattle.ads.specs.declared.answers.Ends.{Ends}
 
@@ -23,6 +24,13 @@ countedAnswer c = choose (c .number) (result (c .count ∷ [])) (λ n. refused n
 
 abbrev pub countedAlone : ℕ → Counted
 countedAlone n = record { count = 0; number = n }
+
+-- and where no row is named, the row
+unfoldable pub countedRowAnswer : CountedRow → Answer
+countedRowAnswer c = choose (c .number) (result (c .count ∷ c .row ∷ [])) (λ n. refused n)
+
+abbrev pub countedRowAlone : ℕ → CountedRow
+countedRowAlone n = record { count = 0; row = 0; number = n }
 
 -- "the row with that serial and whether the sub-formats agree, or missing"
 unfoldable pub parentAnswer : Parent → Answer

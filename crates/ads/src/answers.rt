@@ -14,6 +14,14 @@ pub struct Counted {
     pub number: u8,
 }
 
+// ads_counted_row: the same, and the row that was chosen.
+#[repr(C)]
+pub struct CountedRow {
+    pub count: usize,
+    pub row: usize,
+    pub number: u8,
+}
+
 // ads_parent_answer: the row, if one was found, and whether the sub-formats agree.
 #[repr(C)]
 pub struct Parent {

@@ -8,14 +8,15 @@ ghost use Rattle.metafile.specs.Answers.{outcome};
 ghost use Rattle.metafile.specs.Begin.{begin};
 ghost use Rattle.metafile.specs.Append.{append};
 ghost use Rattle.metafile.specs.Calls.{read, parent, contents, gather};
-ghost use Rattle.metafile.specs.Relations.{relationsWrite, relationsCheck};
+ghost use Rattle.metafile.specs.Relations.{relationsWrite, relationsCheck, relationsCheckLatest};
 ghost use Rattle.begin.specs.Given.{givenOf as begun};
 ghost use Rattle.append.specs.Given.{givenOf};
 ghost use Rattle.contents.specs.Outcome.{partOf, partOutcome};
 ghost use Rattle.read.specs.State.{readOutcome};
 ghost use Rattle.listing_text.specs.Text.{listingOutcome};
-ghost use Rattle.ads.specs.Answers.{writtenAnswer, writtenAlone, countedAnswer, countedAlone, parentAnswer, parentAlone, endsAnswer, endsAlone};
+ghost use Rattle.ads.specs.Answers.{writtenAnswer, writtenAlone, countedAnswer, countedAlone, countedRowAnswer, countedRowAlone, parentAnswer, parentAlone, endsAnswer, endsAlone};
 use crate::answers::Counted;
+use crate::answers::CountedRow;
 use crate::answers::Ends;
 use crate::answers::Parent;
 use crate::answers::Written;
@@ -28,6 +29,7 @@ use metafile::GatherAnswer;
 use metafile::ParentAnswer;
 use metafile::ReadAnswer;
 use metafile::RelationsCheckAnswer;
+use metafile::RelationsLatestAnswer;
 use metafile::RelationsWriteAnswer;
 use metafile::Row;
 use metafile::clean::clean_at;
@@ -188,6 +190,26 @@ pub extern "C" fn ads_relations_check(file: &[u8], row: usize, verdicts: &mut [u
     match answer {
         RelationsCheckAnswer::Checked(count) => Counted { count, number: 0 },
         RelationsCheckAnswer::Refused(number) => Counted { count: 0, number },
+    }
+}
+
+#[no_mangle]
+pub extern "C" fn ads_relations_check_latest(file: &[u8], verdicts: &mut [u32]) -> CountedRow
+    ensures answer { λ r. ⌜ outcome (countedRowAnswer r) (now (verdicts .exit)) ≡ relationsCheckLatest (now (file .entry)) (now (verdicts .entry)) ⌝ }
+    ensures alone { λ r. ⌜ r ≡ choose (r .number) r countedRowAlone ⌝ }
+{
+    let answer = relations_check::check_latest(file, verdicts);
+    match answer {
+        RelationsLatestAnswer::Checked(count, row) => CountedRow {
+            count,
+            row,
+            number: 0,
+        },
+        RelationsLatestAnswer::Refused(number) => CountedRow {
+            count: 0,
+            row: 0,
+            number,
+        },
     }
 }
 

@@ -10,6 +10,7 @@ mod calls;
 mod description;
 
 pub use answers::Counted;
+pub use answers::CountedRow;
 pub use answers::Ends;
 pub use answers::Parent;
 pub use answers::Written;

@@ -14,6 +14,7 @@ use Rattle.metafile.specs.Bytes.{part}
 use Rattle.metafile.specs.Fields.{countValue}
 use Rattle.metafile.specs.Closing.{sumPlace, closingEnd, closingSerial, sumGood}
 use Rattle.metafile.specs.Chunk.{head, headerLength, subFormat, synchType, standard, offsetBytes, dependencyBytes, dependencies, isMulti, specific, lengthsFault, dependencySerialOf, dependencySubFormatOf, specificPlace, headerBytes, contentsFrom, contentsLong, contentsPlace, contentsBytes, closingPlace, chunkEnd, serialOf, contentCount, chunkEnding, rowAt}
+use Rattle.metafile.specs.Relations.{writingDateOf}
 use Rattle.laws.proofs.Lists.{part-local}
 use Rattle.laws.proofs.Table.{run-enough, run-local}
 use Rattle.chunk_laws.proofs.Types.{stretch-local}
@@ -89,6 +90,11 @@ module _ (llc : Bool) (m s t : List ℕ) (w : Whole llc m s) where
   unfolding serialOf closingSerial chunkEnd closingEnd
   serialOf-local =
       rw closingPlace-local (part-local (closingPlace m s + length m + 20) 38 s t (omega (arith, fits llc m s w)))
+
+  pub writingDate-local : writingDateOf m (s ++ t) ≡ writingDateOf m s
+  unfolding writingDateOf chunkEnd closingEnd
+  writingDate-local =
+      rw closingPlace-local (part-local (closingPlace m s + length m + 163) 8 s t (omega (arith, fits llc m s w)))
 
   good-local : sumGood (closingPlace m (s ++ t)) m (s ++ t) ≡ sumGood (closingPlace m s) m s
   unfolding sumGood sumPlace chunkEnd closingEnd

@@ -3,21 +3,25 @@
 --     file-placed row-placed every row of a file's reading is placed
 --     placed-.. row-inside   it lies inside the file: end, header, dependencies, contents
 --     ..-taken               its serial and its sub-format are fields that a reader takes, of full width
+--     writing-dated          its writing date is a date
 -- Assumes nothing.
 use Prim.Native.Nat.{ℕ, zero, suc, _+_, _*_, _≤_, _<_}
-use mathlib.Core.Bool.{Bool}
+use mathlib.Core.Bool.{Bool, true}
 use mathlib.Core.Path.{_≡_, refl, ap, _∙_}
 use mathlib.Core.List.{List, [], _∷_, _++_}
 use native.Mathlib.Omega.{arith}
 use lib.ListN.{length, take, drop, length-drop}
 use lib.Seq.{drop-drop, take-take, length-take-le}
 use Rattle.metafile.specs.declared.Row.{Row}
-use Rattle.metafile.specs.Lines.{text, serial, fixed, value, lf, opened, linesOf, fieldFault, textFault, serialFault, kindFault, fault, chunkHeaderLength, subFormatID, genericType, timeAndEvent, dependencyLength, dependencyCount, chunkSerial, recordingDate, recordingAgent, writingDate, writingAgent, checksum}
+use Rattle.metafile.specs.Fields.{isDate}
+use Rattle.metafile.specs.Lines.{text, date, serial, fixed, value, lf, opened, linesOf, fieldFault, textFault, dateFault, serialFault, kindFault, fault, chunkHeaderLength, subFormatID, genericType, timeAndEvent, dependencyLength, dependencyCount, chunkSerial, recordingDate, recordingAgent, writingDate, writingAgent, checksum}
 use Rattle.metafile.specs.Closing.{summed, unsummed, closing, closingEnd, closingSerial}
 use Rattle.metafile.specs.Header.{isLLC, markOf, headerEnd}
 use Rattle.metafile.specs.Chunk.{head, subFormat, headerBytes, headerBytesFor, contentsPlace, closingPlace, chunkEnd, serialOf, rowAt}
 use Rattle.metafile.specs.Reading.{halt, onto, readRows, rowsOf}
 use Rattle.metafile.specs.Append.{rowNo}
+use Rattle.metafile.specs.Relations.{writingDateOf}
+use Rattle.laws.proofs.Dates.{date-good}
 use Rattle.laws.proofs.Table.{field-enough, field-own, field-long, run-at}
 use Rattle.laws.proofs.Distances.{lines}
 use Rattle.chunk_laws.proofs.Chunk.{Whole, fits, least}
@@ -159,3 +163,13 @@ module _ (llc : Bool) (m s : List ℕ) (w : Whole llc m s) where
       taken-alone 256 textFault (drop 46 s)
       (run-at (linesOf (chunkHeaderLength ∷ []) ++ fixed (subFormatID .label) ∷ []) (value (text 256))
       (lf ∷ linesOf (genericType ∷ timeAndEvent ++ dependencyLength ∷ []) ++ opened dependencyCount) s (w .in-head))
+
+  pub writing-dated : isDate (writingDateOf m s) ≡ true
+  unfolding writingDateOf closing summed unsummed lines kindFault fault
+  writing-dated =
+      let place : closingPlace m s + length m + 163 ≡ closingPlace m s + (length m + 163) = omega arith in
+      rw (place, ← drop-drop (length m + 163) (closingPlace m s) s)
+      (date-good _ (field-own 8 dateFault (drop (length m + 163) (drop (closingPlace m s) s))
+      (run-at (fixed m ∷ linesOf (chunkSerial ∷ recordingDate ∷ recordingAgent ∷ []) ++ fixed (writingDate .label) ∷ []) (value date)
+      ((lf ∷ linesOf (writingAgent ∷ []) ++ fixed (checksum .label) ∷ []) ++ unsummed m)
+      (drop (closingPlace m s) s) (w .in-closing))))

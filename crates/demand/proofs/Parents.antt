@@ -4,7 +4,7 @@
 -- new row is answered with the row named as its parent.
 --     row-same chunk-same                    old rows and their chunks
 --     found-kept missing-late missing-kept   old dependencies
---     new-last new-parents                   the new row, and its dependencies
+--     new-last new-chunk new-parents         the new row, its chunk, and its dependencies
 -- Assumes nothing.
 use Prim.Native.Nat.{ℕ, zero, suc, _^_, _≤_, _<_}
 use mathlib.Core.Bool.{true}
@@ -146,7 +146,7 @@ module _ (old : List ℕ) (g : Given) (a : Taken old g) (e₁ e₃ : ℕ) (is : 
   unfolding rowNo
   new-last = rw is (getD-append-seam (rowsOf old) (newRow old g e₁ e₃) [] _)
 
-  new-chunk : chunkOf (old ++ chunkBytes old g) (length (rowsOf old)) ≡ chunkBytes old g
+  pub new-chunk : chunkOf (old ++ chunkBytes old g) (length (rowsOf old)) ≡ chunkBytes old g
   unfolding chunkOf newRow
   new-chunk = rw new-last (drop-append-seam old (chunkBytes old g))
 

@@ -1,22 +1,26 @@
 // Serial numbers, each one value of 38 bytes: "#", date, I2 hour to 23, I2 minute and I2 second to 59, I3 millisecond,
-// A12 processor, I5 random to 65535, I3 check. "The check is the first 35 bytes added byte by byte, modulo 256."
+// A12 processor, I5 random to 65535, I3 check. "The check is the first 35 bytes added byte by byte, modulo 256." Reading
+// one gives the day of its date.
 ghost use mathlib.Core.Path.{_≡_};
 ghost use Prim.Native.Nat.{_≤_};
 ghost use lib.ListN.{length, take};
-ghost use Rattle.metafile.specs.Fields.{isSerial, sameSerial};
-use crate::dates::is_date;
+ghost use Rattle.metafile.specs.Fields.{sameSerial};
+ghost use Rattle.metafile.specs.Days.{serialRead};
+use crate::dates::read_date;
 use crate::numbers::count_value;
 use crate::numbers::digits_at;
 use crate::numbers::is_count;
 use crate::numbers::is_text;
+use metafile::Day;
 
-pub fn is_serial(serial: [u8; 38]) -> bool
-    ensures { λ r. ⌜ r ≡ isSerial serial ⌝ }
+pub fn read_serial(serial: [u8; 38]) -> Day
+    ensures { λ r. ⌜ r ≡ serialRead serial ⌝ }
 {
     let s = &serial[..];
     let check = &s[35..38];
+    let day = read_date(&s[1..9]);
     let good = (s[0] == b'#')
-        & is_date(&s[1..9])
+        & (day.fault() == 0)
         & digits_at(s, 9, 2, 23)
         & digits_at(s, 11, 2, 59)
         & digits_at(s, 13, 2, 59)
@@ -24,7 +28,10 @@ pub fn is_serial(serial: [u8; 38]) -> bool
         & is_text(&s[18..30])
         & digits_at(s, 30, 5, 65535);
     let right = count_value(check) == sums::byte_sum(&s[0..35]) as u64;
-    good & is_count(check) & right
+    if good & is_count(check) & right {
+        return day;
+    }
+    Day::NoDate
 }
 
 // "Serials are compared by their first 35 bytes."

@@ -5,6 +5,7 @@ ghost use mathlib.Core.Bool.{cond, _||_};
 ghost use lib.Dec.{eqb, leb, ltb};
 ghost use lib.ListN.{length};
 ghost use Rattle.metafile.specs.Bytes.{find, sum};
+ghost use Rattle.metafile.specs.Days.{dayRead, dayValue};
 ghost use Rattle.index.specs.Index.{hashOf};
 ghost use Rattle.search.specs.Shifts.{tries};
 use search::Found;
@@ -55,6 +56,17 @@ pub extern "C" fn kernel_hash(s: &[u8]) -> u64
 {
     if 38 <= s.len() {
         return index::hash(s);
+    }
+    0
+}
+
+// The day number of a date; 0 where it is none, and where there are not just its 8 bytes.
+#[no_mangle]
+pub extern "C" fn kernel_day(date: &[u8]) -> u32
+    ensures { λ r. ⌜ r ≡ cond (eqb (length (now (date .entry))) 8) (dayValue (dayRead (now (date .entry)))) 0 ⌝ }
+{
+    if date.len() == 8 {
+        return fields::day_number(fields::read_date(date));
     }
     0
 }

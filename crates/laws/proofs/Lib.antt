@@ -3,6 +3,7 @@
 -- Digits     a number in n digits is read back
 -- SameSerial serial numbers compared by their first 35 bytes
 -- Zero       what holds no zero byte: digits, text, date, offset, serial number; what is text
+-- Dates      what reading a date or a serial number gives
 -- Below      tests of the numbers below n, and a property of all elements of their lists
 -- Split      bytes divided at a byte, fields with it between them, lines each with its LF
 -- Table      the field rule, and the laws of a run over a stretch of fields: enough, local, zero-free, round trip
@@ -19,6 +20,7 @@ pub mod Lists
 pub mod Digits
 pub mod SameSerial
 pub mod Zero
+pub mod Dates
 pub mod Below
 pub mod Split
 pub mod Table

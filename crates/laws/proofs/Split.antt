@@ -7,7 +7,7 @@
 --     split-at split-end       by the first place of the byte
 --     append-lacks divided-lacks   two parts without the byte, and fields with another between them
 --     text-lacks        a text has no byte below 32
---     serial-parts name-parts   the fields of a relation line
+--     serial-field-is serial-parts name-parts   the fields of a relation line
 -- Assumes nothing.
 use Prim.Native.Nat.{ℕ, suc, _≤_, _<_}
 use mathlib.Core.Bool.{Bool, true, false, not, _&&_}
@@ -22,6 +22,7 @@ use Rattle.metafile.specs.Fields.{isText, isSerial}
 use Rattle.metafile.specs.Append.{isIn}
 use Rattle.metafile.specs.Relations.{divided, ontoFirst, splitOn, lined, isSerialField, isNameField}
 use Rattle.laws.proofs.First.{test, untrue, and-both, or-false}
+use Rattle.laws.proofs.Dates.{serial-asked}
 
 unfoldable pub noneHas : ℕ → List (List ℕ) → Bool
 noneHas d [] = true
@@ -164,9 +165,15 @@ text-lacks d (x ∷ v) h e =
 
 -- ---- the fields of a relation line
 
-pub serial-parts : (v : List ℕ) → isSerialField v ≡ true → (length v ≡ 38) × (isSerial v ≡ true)
+pub serial-field-is : (v : List ℕ) → isSerialField v ≡ (eqb (length v) 38 && isSerial v)
 unfolding isSerialField
-serial-parts v e = let h = and-both (eqb (length v) 38) (isSerial v) e in (eqb-true (length v) 38 (h .0), h .1)
+serial-field-is v = rw (serial-asked v)
+
+pub serial-parts : (v : List ℕ) → isSerialField v ≡ true → (length v ≡ 38) × (isSerial v ≡ true)
+serial-parts v f =
+    let e = sym (serial-field-is v) ∙ f in
+    let h = and-both (eqb (length v) 38) (isSerial v) e in
+    (eqb-true (length v) 38 (h .0), h .1)
 
 pub name-parts : (v : List ℕ) → isNameField v ≡ true → (length v ≡ 256) × (all isText v ≡ true)
 unfolding isNameField

@@ -17,11 +17,12 @@ use lib.ListN.{length, take, drop, length-append, length-drop}
 use lib.Seq.{take-append-le, drop-append-le, take-at, drop-at, drop-drop, take-add, take-take}
 use borrow.Author.Tests.{leb-true, le-leb, lt-leb, eqb-true}
 use Rattle.metafile.specs.Bytes.{part, _⊳_, require, all, isZero, nonZero, same, member}
-use Rattle.metafile.specs.Fields.{isCount, countValue, isText, isDate, isOffset, isSerial}
+use Rattle.metafile.specs.Fields.{isCount, countValue, isText, isOffset}
 use Rattle.metafile.specs.Lines.{Kind, count, text, date, offset, serial, word, strategy, stamp, free, LLC, NUL, Field, fixed, value, fieldFault, fixedFault, countFault, textFault, dateFault, offsetFault, serialFault, wordFault, stampFault, freeFault, width, kindFault, fieldWidth, fault, size, run, put, left, write, formed}
 use Rattle.laws.proofs.First.{test, untrue, and-both, both-and, ⊳-left, ⊳-right, ⊳-both, ⊳-assoc, require-true}
 use Rattle.laws.proofs.Lists.{same-eq, all-append, allOf, member-all}
 use Rattle.laws.proofs.Zero.{text-clear, count-clear, date-clear, offset-clear, serial-clear}
+use Rattle.laws.proofs.Dates.{date-good, serial-good}
 
 -- ---- one field, n bytes wide
 
@@ -119,14 +120,14 @@ unfolding wordFault
 word-clear ws s z e = member-all (all nonZero) (take 3 s) ws z (require-true _ 4 (field-own 3 (wordFault ws) s e))
 
 pub kind-clear : (k : Kind) (s : List ℕ) → strictKind k ≡ true → kindFault k s ≡ 0 → all nonZero (take (width k) s) ≡ true
-unfolding kindFault width strictKind textFault dateFault offsetFault serialFault allOf all nonZero isZero
+unfolding kindFault width strictKind textFault offsetFault allOf all nonZero isZero
 kind-clear (count n most) s z e = digits-clear n most s e
 kind-clear (text n) s z e = text-clear (take n s) (require-true _ 5 (field-own n textFault s e))
-kind-clear date s z e = date-clear (take 8 s) (require-true _ 5 (field-own 8 dateFault s e))
+kind-clear date s z e = date-clear (take 8 s) (date-good (take 8 s) (field-own 8 dateFault s e))
 kind-clear offset s z e =
     rw (take-take 16 16 s (omega arith)) at (offset-clear (take 16 s) (require-true _ 5 (field-own 16 offsetFault s e)))
 kind-clear serial s z e =
-    rw (take-take 38 38 s (omega arith)) at (serial-clear (take 38 s) (require-true _ 5 (field-own 38 serialFault s e)))
+    rw (take-take 38 38 s (omega arith)) at (serial-clear (take 38 s) (serial-good (take 38 s) (field-own 38 serialFault s e)))
 kind-clear (word ws) s z e = word-clear ws s z e
 kind-clear strategy s z e =
     rw (take-add 3 3 s)

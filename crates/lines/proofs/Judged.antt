@@ -187,11 +187,11 @@ module _ (frees serials : List (List ℕ)) (s : List ℕ) (at : ℕ) where
     stamp-word e = rw (word-judged, e, drop-drop 3 at s)
 
     pub stamp-serial : member (part at 3 s) serials ≡ true → fieldFault 38 serialFault (drop (at + 3) s) ≡ kindFault (stamp frees serials) (drop at s)
-    stamp-serial e = sym (stamp-word (or-right (member (part at 3 s) frees) (member (part at 3 s) serials) e) ∙ (unfold fieldFault stampFault serialFault in rw e))
+    stamp-serial e = sym (stamp-word (or-right (member (part at 3 s) frees) (member (part at 3 s) serials) e) ∙ (unfold fieldFault stampFault in rw e))
 
     pub stamp-free : member (part at 3 s) frees ≡ true → member (part at 3 s) serials ≡ false
         → fieldFault 38 freeFault (drop (at + 3) s) ≡ kindFault (stamp frees serials) (drop at s)
-    stamp-free e f = sym (stamp-word (or-left (member (part at 3 s) frees) (member (part at 3 s) serials) e) ∙ (unfold fieldFault stampFault freeFault require in rw f))
+    stamp-free e f = sym (stamp-word (or-left (member (part at 3 s) frees) (member (part at 3 s) serials) e) ∙ (unfold fieldFault stampFault freeFault in rw f))
 
 -- ---- a word, then a number
 

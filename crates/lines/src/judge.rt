@@ -66,7 +66,8 @@ pub fn date_fault(s: &[u8], at: usize) -> u8
     if s.len() - at < places::DATE {
         return refusals::SHORT;
     }
-    verdict(fields::is_date(&s[at..at + places::DATE]), refusals::FORM)
+    let day = fields::read_date(&s[at..at + places::DATE]);
+    day.fault()
 }
 
 pub fn offset_fault(s: &[u8], at: usize) -> u8
@@ -90,7 +91,8 @@ pub fn serial_fault(s: &[u8], at: usize) -> u8
         return refusals::SHORT;
     }
     let serial = fields::serial_from(&s[at..at + places::SERIAL]);
-    verdict(fields::is_serial(serial), refusals::FORM)
+    let day = fields::read_serial(serial);
+    day.fault()
 }
 
 // n bytes of any value

@@ -6,6 +6,8 @@
 -- ThreeEndings  how the end of a chunk was found
 -- SpacesInFront numbers with spaces in front, and one serial number under two writings of its check
 -- Relations     the contents of ADS\SYS\Relations, written and checked
+-- DayNumbers    the numbers of days
+-- Latest        which of several relation chunks holds
 -- Given         a text that is given, and what append sees of it
 pub mod Computed
 pub mod Samples
@@ -15,4 +17,6 @@ pub mod NoBytes
 pub mod ThreeEndings
 pub mod SpacesInFront
 pub mod Relations
+pub mod DayNumbers
+pub mod Latest
 pub mod Given

@@ -74,14 +74,13 @@ byHand =
 
 -- ---- the file
 
--- a chunk with n dependencies, the serial number and sub-format of each in `parents`; its sum is bad, and not asked
-unfoldable pub chunkWith : List ℕ → List ℕ → ℕ → List (List ℕ) → List ℕ → List ℕ
-chunkWith serial id n parents contents =
-    closedBy serial (bytes "000")
-    (write head
+-- header and contents of a chunk with n dependencies, the serial number and sub-format of each in `parents`
+unfoldable pub unclosed : List ℕ → ℕ → List (List ℕ) → List ℕ → List ℕ
+unclosed id n parents contents =
+    write head
     (headValues
     (record {
-      description = withSubFormat (described serial) id;
+      description = withSubFormat (described paperSerial) id;
       parents = replicate n 0;
       specific = [];
       contents = [];
@@ -89,7 +88,11 @@ chunkWith serial id n parents contents =
     }))
     ++ write (lf ∷ dependencyFields n) parents
     ++ write (linesOf (contentLength ∷ [])) (digitsOf 12 (length contents + 1) ∷ [])
-    ++ contents)
+    ++ contents
+
+-- a chunk; its sum is bad, and not asked
+unfoldable pub chunkWith : List ℕ → List ℕ → ℕ → List (List ℕ) → List ℕ → List ℕ
+chunkWith serial id n parents contents = closedBy serial (bytes "000") (unclosed id n parents contents)
 
 -- the last row's dependencies: on row 0, its check with spaces; on row 0 under the relations rows' sub-format; on the
 -- relations row under another; on no row
@@ -123,7 +126,7 @@ alone contents = begunABAB ++ chunkWith relationsSerial relationsID 0 [] content
 
 -- `unfolding related` opens these values and every definition
 unfoldable pub related : Unit {0}
-unfolding samples spacedSerial closedBy relationsSerial childSerial missingSerial testID otherID relationsID headingLine relation line byHand chunkWith file expected alone
+unfolding samples spacedSerial closedBy relationsSerial childSerial missingSerial testID otherID relationsID headingLine relation line byHand unclosed chunkWith file expected alone
 related = tt
 
 -- ---- the writer

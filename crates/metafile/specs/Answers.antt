@@ -16,6 +16,8 @@ use Rattle.metafile.specs.declared.RelationsWriteAnswer.{RelationsWriteA
 use Rattle.metafile.specs.declared.RelationsWriteAnswer.the-variants.{Written as RelationsWritten, Refused as RelationsWriteRefused}
 use Rattle.metafile.specs.declared.RelationsCheckAnswer.{RelationsCheckAnswer}
 use Rattle.metafile.specs.declared.RelationsCheckAnswer.the-variants.{Checked, Refused as RelationsCheckRefused}
+use Rattle.metafile.specs.declared.RelationsLatestAnswer.{RelationsLatestAnswer}
+use Rattle.metafile.specs.declared.RelationsLatestAnswer.the-variants.{Checked as LatestChecked, Refused as RelationsLatestRefused}
 use Rattle.metafile.specs.Bytes.{choose}
 
 -- an accepted call's values, in the order of the paper, or one refusal number
@@ -55,6 +57,11 @@ relationsWriteAnswer (RelationsWriteRefused n) = refused n
 unfoldable pub relationsCheckAnswer : RelationsCheckAnswer → Answer
 relationsCheckAnswer (Checked count) = result (count ∷ [])
 relationsCheckAnswer (RelationsCheckRefused n) = refused n
+
+-- the number of verdicts, and the row
+unfoldable pub relationsLatestAnswer : RelationsLatestAnswer → Answer
+relationsLatestAnswer (LatestChecked count row) = result (count ∷ row ∷ [])
+relationsLatestAnswer (RelationsLatestRefused n) = refused n
 
 -- ---- refusals
 

@@ -1,6 +1,7 @@
 -- The definitions of the ADS metafile, in the order of the scope paper.
 --     Bytes      tests on bytes and lists of bytes, the first fault
 --     Fields     text fields: digits, counts, text, date, offset, serial number
+--     Days       dates as day numbers; what reading a date gives
 --     Lines      field kinds, the field rule, the table of lines, the reader's and the writer's run
 --     Closing    integrity data, sum, closing
 --     Header     the file header
@@ -19,6 +20,7 @@
 --     Listing    the text that the listing program prints
 pub mod Bytes
 pub mod Fields
+pub mod Days
 pub mod Lines
 pub mod Closing
 pub mod Header

@@ -1,12 +1,13 @@
 -- Field kinds, the field rule, the table of lines, and the two runs over a stretch of fields: the reader's over bytes,
 -- the writer's over values. Assumes nothing.
 use Prim.Native.Nat.{ℕ, zero, suc, _+_}
-use mathlib.Core.Bool.{Bool, true, false, cond, not, _&&_, _||_}
+use mathlib.Core.Bool.{Bool, true, cond, _&&_}
 use mathlib.Core.List.{List, [], _∷_, _++_}
 use lib.Dec.{leb, eqb}
 use lib.ListN.{length, take, drop}
 use Rattle.metafile.specs.Bytes.{bytes, _⊳_, require, all, same, member}
-use Rattle.metafile.specs.Fields.{isCount, countValue, isText, isDate, isOffset, isSerial}
+use Rattle.metafile.specs.Fields.{isCount, countValue, isText, isOffset}
+use Rattle.metafile.specs.Days.{dayRead, serialRead, dayFault}
 
 -- ---- the listed words
 
@@ -80,20 +81,20 @@ unfoldable pub textFault : List ℕ → ℕ
 textFault v = require (all isText v) 6
 
 unfoldable pub dateFault : List ℕ → ℕ
-dateFault v = require (isDate v) 6
+dateFault v = dayFault (dayRead v)
 
 unfoldable pub offsetFault : List ℕ → ℕ
 offsetFault v = require (isOffset v) 6
 
 unfoldable pub serialFault : List ℕ → ℕ
-serialFault v = require (isSerial v) 6
+serialFault v = dayFault (serialRead v)
 
 unfoldable pub wordFault : List (List ℕ) → List ℕ → ℕ
 wordFault ws v = require (member v ws) 5
 
 -- "The 38 bytes must be a serial number after ALT, SLV and MAS; elsewhere they are free"
 unfoldable pub stampFault : List (List ℕ) → List ℕ → List ℕ → ℕ
-stampFault serials w v = require (not (member w serials) || isSerial v) 6
+stampFault serials w v = cond (member w serials) (serialFault v) 0
 
 unfoldable pub freeFault : List ℕ → ℕ
 freeFault v = 0

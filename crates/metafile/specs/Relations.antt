@@ -1,16 +1,18 @@
 -- The contents of ADS\SYS\Relations, the Master Relation Chunk: "a heading line, then lines of five fields divided by tabs",
 -- written for a file and checked against it. Assumes nothing.
-use Prim.Native.Nat.{ℕ, _+_}
+use Prim.Native.Nat.{ℕ, zero, suc, _+_}
 use mathlib.Core.Bool.{Bool, cond, not, _&&_}
 use mathlib.Core.List.{List, [], _∷_, _++_}
 use lib.Dec.{leb, ltb, eqb}
 use lib.ListN.{length, getD}
-use Rattle.metafile.specs.Bytes.{bytes, all, isZero, same}
-use Rattle.metafile.specs.Fields.{isText, padded, isSerial, sameSerial}
+use Rattle.metafile.specs.Bytes.{bytes, part, all, isZero, same}
+use Rattle.metafile.specs.Fields.{isText, padded, sameSerial}
+use Rattle.metafile.specs.Days.{dayRead, serialRead, dayFault, dayValue}
 use Rattle.metafile.specs.Lines.{firstOf}
-use Rattle.metafile.specs.Chunk.{subFormat, dependencySerialOf, dependencySubFormatOf}
+use Rattle.metafile.specs.Header.{markOf}
+use Rattle.metafile.specs.Chunk.{subFormat, dependencySerialOf, dependencySubFormatOf, closingPlace}
 use Rattle.metafile.specs.Reading.{rowsOf}
-use Rattle.metafile.specs.Answers.{result, Test, refuse, overLimit, Outcome, placed, unlessRefused}
+use Rattle.metafile.specs.Answers.{Answer, result, refused, Test, refuse, overLimit, Outcome, placed, unlessRefused}
 use Rattle.metafile.specs.Append.{rowNo}
 use Rattle.metafile.specs.Calls.{chunkOf, parentRow, rowContents}
 use Rattle.metafile.specs.Below.{anyBelow, joinBelow}
@@ -112,7 +114,7 @@ abbrev pub fieldNo : List (List ℕ) → ℕ → List ℕ
 fieldNo fs i = getD fs i []
 
 unfoldable pub isSerialField : List ℕ → Bool
-isSerialField v = eqb (length v) 38 && isSerial v
+isSerialField v = eqb (length v) 38 && isZero (dayFault (serialRead v))
 
 unfoldable pub isNameField : List ℕ → Bool
 isNameField v = eqb (length v) 256 && all isText v
@@ -194,3 +196,44 @@ relationsCheck file k list =
       answer = result (length (verdicts file (contentsLines file k)) ∷ []);
       buffer = placed 0 (verdicts file (contentsLines file k)) list;
     })
+
+-- ---- "which of several relation chunks holds"
+
+-- the date in the fourth line of integrity data of the chunk s, m the mark
+unfoldable pub writingDateOf : List ℕ → List ℕ → List ℕ
+writingDateOf m s = part (closingPlace m s + length m + 163) 8 s
+
+-- the day on which row k's chunk was written
+unfoldable pub writingDay : List ℕ → ℕ → ℕ
+writingDay file k = dayValue (dayRead (writingDateOf (markOf file) (chunkOf file k)))
+
+-- a row, and the day on which its chunk was written
+pub record Latest : Type 0 where
+  pub row : ℕ
+  pub day : ℕ
+
+-- "the latest Chunk_Writing_Date, and of equal dates the later row": among the first n rows; the number of rows and day 0
+-- where none of them is a relations row
+unfoldable pub latestBelow : List ℕ → ℕ → Latest
+latestBelow file zero = record { row = length (rowsOf file); day = 0 }
+latestBelow file (suc n) =
+    cond (isRelations (chunkOf file n) && leb (latestBelow file n .day) (writingDay file n))
+    (record { row = n; day = writingDay file n })
+    (latestBelow file n)
+
+-- the row that holds; the number of rows where there is none
+unfoldable pub relationsRow : List ℕ → ℕ
+relationsRow file = latestBelow file (length (rowsOf file)) .row
+
+-- the row beside a result
+unfoldable pub withRow : ℕ → Answer → Answer
+withRow k (result values) = result (values ++ k ∷ [])
+withRow k (refused n) = refused n
+
+-- "The relations check of U1 uses this choice when no row is named; with no such row it gives 13." The row is answered too
+unfoldable pub relationsCheckLatest : List ℕ → List ℕ → Outcome
+relationsCheckLatest file list =
+    record {
+      answer = withRow (relationsRow file) (relationsCheck file (relationsRow file) list .answer);
+      buffer = relationsCheck file (relationsRow file) list .buffer;
+    }

@@ -1,11 +1,13 @@
 // The types of a SEG-UKOOA ADS metafile 1.00 that the definitions in specs/ name: the row, the answers of the
 // calls, and the description of a chunk to append, with its methods. specs/ says what each call gives.
 //     clean         whether a file is clean
+//     days          the fault of what reading a date gives
 //     endings       how the end of a chunk was found
 //     fields_given  the description's methods
 //     refusals      the refusal numbers
 //     rows          the row of no chunk
 pub mod clean;
+mod days;
 pub mod endings;
 mod fields_given;
 pub mod refusals;
@@ -13,6 +15,13 @@ mod rows;
 
 // "11 a lent byte buffer over 2^30": limit of specs/Answers
 pub const LIMIT: usize = 1073741824;
+
+// What reading a date gives, or a serial number by its date: the day, by year, month and day, or that there is none. The day's
+// number is fields::day_number.
+pub enum Day {
+    On(u16, u8, u8),
+    NoDate,
+}
 
 // One chunk of the table. Places are counted from the file's first byte.
 #[repr(C)]
@@ -82,6 +91,12 @@ pub enum RelationsWriteAnswer {
 // What the check of relations answers: the number of verdicts.
 pub enum RelationsCheckAnswer {
     Checked(usize),
+    Refused(u8),
+}
+
+// What the check of relations answers where no row is named: the number of verdicts, and the row.
+pub enum RelationsLatestAnswer {
+    Checked(usize, usize),
     Refused(u8),
 }
 

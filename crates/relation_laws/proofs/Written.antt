@@ -12,7 +12,7 @@
 -- Assumes nothing.
 use Prim.Native.Nat.{ℕ, _+_, _*_, _<_}
 use mathlib.Core.Bool.{Bool, true, false}
-use mathlib.Core.Path.{_≡_, refl, ap}
+use mathlib.Core.Path.{_≡_, refl, ap, _∙_}
 use mathlib.Core.List.{List, [], _∷_, _++_, append-nil}
 use native.Mathlib.Omega.{arith}
 use native.Mathlib.Nat.{le-of-eq}
@@ -34,8 +34,9 @@ use Rattle.laws.proofs.First.{test, both-and, require-true}
 use Rattle.laws.proofs.Lists.{same-refl}
 use Rattle.laws.proofs.SameSerial.{serial-refl}
 use Rattle.laws.proofs.Zero.{serial-text}
+use Rattle.laws.proofs.Dates.{serial-good}
 use Rattle.laws.proofs.Below.{any-true, Every, every-join}
-use Rattle.laws.proofs.Split.{noneHas, lacks-more, divided-lacks, split-divided, split-lined, text-lacks, serial-parts, name-parts}
+use Rattle.laws.proofs.Split.{noneHas, lacks-more, divided-lacks, split-divided, split-lined, text-lacks, serial-field-is, serial-parts, name-parts}
 use Rattle.laws.proofs.Table.{field-own}
 use Rattle.chunk_laws.proofs.Places.{row-placed, serial-taken, subFormat-taken}
 use Rattle.chunk_laws.proofs.Dependencies.{dependencySerial-taken, dependencySubFormat-taken, chunk-whole, j-there}
@@ -43,10 +44,11 @@ use Rattle.chunk_laws.proofs.Dependencies.{dependencySerial-taken, dependencySu
 -- ---- fields
 
 serial-field : (v : List ℕ) → length v ≡ 38 → kindFault serial v ≡ 0 → isSerialField v ≡ true
-unfolding kindFault serialFault isSerialField
+unfolding kindFault
 serial-field v l e =
-    both-and (eqb (length v) 38) (isSerial v) (eq-eqb (length v) 38 l)
-    (rw (take-all 38 v (le-of-eq l)) at (require-true (isSerial (take 38 v)) 5 (field-own 38 serialFault v e)))
+    serial-field-is v
+    ∙ both-and (eqb (length v) 38) (isSerial v) (eq-eqb (length v) 38 l)
+    (rw (take-all 38 v (le-of-eq l)) at (serial-good (take 38 v) (field-own 38 serialFault v e)))
 
 name-field : (v : List ℕ) → length v ≡ 256 → kindFault (text 256) v ≡ 0 → isNameField v ≡ true
 unfolding kindFault textFault isNameField

@@ -21,6 +21,7 @@ use Rattle.metafile.specs.Relations.{divided, splitOn, relationName, fieldNo, i
 use Rattle.laws.proofs.First.{test, and-both}
 use Rattle.laws.proofs.Lists.{same-eq, part-long}
 use Rattle.laws.proofs.Zero.{serial-text}
+use Rattle.laws.proofs.Dates.{serial-asked}
 use Rattle.laws.proofs.Split.{noneHas, lacks-more, split-divided, divided-split, text-lacks, serial-parts, name-parts}
 use Rattle.relation_line.specs.Form.{hasName, Five}
 use Rattle.relation_line.proofs.Names.{named-front}
@@ -243,6 +244,8 @@ module _ (line : List ℕ) (long : length line ≡ 604) (named : hasName line �
         eq-eqb (length (part 52 256 line)) 256 (part-long line 52 256 (omega arith)),
         eq-eqb (length (part 309 38 line)) 38 (part-long line 309 38 (omega arith)),
         eq-eqb (length (part 348 256 line)) 256 (part-long line 348 256 (omega arith)),
+        serial-asked (part 13 38 line),
+        serial-asked (part 309 38 line),
         g .childSerial,
         g .childName,
         g .parentSerial,

@@ -36,7 +36,8 @@ fn serial_at(line: &[u8], at: usize) -> bool
     requires { ⌜ at + 38 ≤ length (now line) ⌝ }
     ensures { λ r. ⌜ r ≡ isSerial (part at 38 (now (line .entry))) ⌝ }
 {
-    fields::is_serial(fields::serial_from(&line[at..at + places::SERIAL]))
+    let day = fields::read_serial(fields::serial_from(&line[at..at + places::SERIAL]));
+    day.fault() == 0
 }
 
 // A line that has the name has five well-formed fields: these have fixed lengths, so all is tested by place.

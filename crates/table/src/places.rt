@@ -154,20 +154,21 @@ pub const MINI_DATA: usize = MINI_LENGTH + LENGTH;
 
 pub const CHUNK_SERIAL: usize = rows::CHUNK_SERIAL.long as usize;
 
-pub const CHECKSUM: usize = CHUNK_SERIAL
-    + SERIAL
-    + 1
-    + rows::RECORDING_DATE.long as usize
-    + rows::RECORDING_DATE.width as usize
+pub const RECORDING_DATE: usize = CHUNK_SERIAL + SERIAL + 1 + rows::RECORDING_DATE.long as usize;
+
+pub const WRITING_DATE: usize = RECORDING_DATE
+    + DATE
     + 1
     + rows::RECORDING_AGENT.long as usize
-    + rows::RECORDING_AGENT.width as usize
+    + AGENT
     + 1
-    + rows::WRITING_DATE.long as usize
-    + rows::WRITING_DATE.width as usize
+    + rows::WRITING_DATE.long as usize;
+
+pub const CHECKSUM: usize = WRITING_DATE
+    + DATE
     + 1
     + rows::WRITING_AGENT.long as usize
-    + rows::WRITING_AGENT.width as usize
+    + AGENT
     + 1
     + rows::CHECKSUM.long as usize;
 

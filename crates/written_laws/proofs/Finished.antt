@@ -1,6 +1,6 @@
 -- The finished chunk: what an accepted append writes is a whole chunk, ends where its last write ends, and its row is
 -- the one demanded.
---     finished-whole finished-end finished-serial finished-row
+--     finished-whole finished-end finished-serial finished-date finished-row
 -- Assumes nothing.
 use Prim.Native.Nat.{ℕ, _+_}
 use mathlib.Core.Bool.{Bool, true, false, cond, not, _&&_}
@@ -18,10 +18,11 @@ use Rattle.metafile.specs.Chunk.{head, standard, dependencyFields, plainFault, 
 use Rattle.metafile.specs.Reading.{rowsOf}
 use Rattle.metafile.specs.Append.{Given, stampGiven, integrityGiven, parentValues, headValues, contentCountFor, firstWrite, thirdWrite, firstEnd, secondEnd, thirdEnd}
 use Rattle.metafile.specs.Demand.{newRow}
+use Rattle.metafile.specs.Relations.{writingDateOf}
 use Rattle.laws.proofs.First.{⊳-left, ⊳-right, ⊳-both, require-met}
 use Rattle.laws.proofs.Table.{field-long, run-split, write-run}
 use Rattle.laws.proofs.Distances.{lines}
-use Rattle.laws.proofs.Closed.{closed-run, closed-good, closed-serial}
+use Rattle.laws.proofs.Closed.{closed-run, closed-good, closed-serial, closed-writing-date}
 use Rattle.chunk_laws.proofs.Chunk.{Whole}
 use Rattle.written_laws.specs.Taken.{Taken}
 use Rattle.written_laws.proofs.Formed.{formed-head, formed-dependencies, formed-line, standard-three}
@@ -89,6 +90,12 @@ module _ (old : List ℕ) (g : Given) (a : Taken old g) where
   finished-serial =
       rw (closingPlace-is old g a, chunk-closed old g)
       (closed-serial (markOf old) (integrityGiven (g .description)) (a .in-integrity) (firstWrite old g ++ g .contents) [])
+
+  pub finished-date : writingDateOf (markOf old) (chunkBytes old g) ≡ g .description .written
+  unfolding writingDateOf thirdWrite integrityGiven
+  finished-date =
+      rw (closingPlace-is old g a, chunk-closed old g)
+      (closed-writing-date (markOf old) (integrityGiven (g .description)) (a .in-integrity) (firstWrite old g ++ g .contents) [])
 
   finished-good : sumGood (closingPlace (markOf old) (chunkBytes old g)) (markOf old) (chunkBytes old g) ≡ true
   unfolding thirdWrite

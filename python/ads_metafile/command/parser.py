@@ -117,12 +117,16 @@ def add_relations(add: Callable[..., ArgumentParser]) -> None:
                "Writes the contents of a relation chunk (ADS\\SYS\\Relations) for a file: a line for each dependency "
                "of each row. With --check it says instead of each relation line of such a chunk, counted from 0, "
                "whether the header of a row declares that dependency: declared, undeclared, or malformed; then how "
-               "many there are of each. Comments are not counted. The status is 1 if a line isn't declared.",
-               "  ads relations survey.ads --write relations.txt\n  ads relations survey.ads --check 4")
+               "many there are of each. Comments are not counted. The status is 1 if a line isn't declared. Of several "
+               "such chunks --check latest takes the one that holds, and prints its row: the one with the latest "
+               "writing date, and of equal dates the later row.",
+               "  ads relations survey.ads --write relations.txt\n  ads relations survey.ads --check 4\n"
+               "  ads relations survey.ads --check latest")
     made.add_argument("file", metavar="FILE", help="metafile")
     either = made.add_mutually_exclusive_group()
     either.add_argument("--write", "-o", dest="output", metavar="OUT", help=NEW_FILE)
-    either.add_argument("--check", metavar="ROW", type=parts.row_number, help="row of a relation chunk, counted from 0")
+    either.add_argument("--check", metavar="ROW", type=relations.row_or_latest,
+                        help="row of a relation chunk, counted from 0, or latest")
 
 
 def add_row(made: ArgumentParser, what: str, **more: Any) -> None:

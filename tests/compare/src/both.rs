@@ -204,6 +204,31 @@ impl Run {
         Ok(verdicts)
     }
 
+    /// Answers the row that holds and its verdicts.
+    pub fn relations_check_latest(&mut self, file: &[u8], room: usize) -> Result<(usize, Vec<u32>), u8> {
+        let (mut proved_row, mut plain_row) = (0, 0);
+        let verdicts = self.written(
+            Call::RelationsLatest,
+            || "relations of the latest row checked".to_string(),
+            file,
+            room,
+            |verdicts| {
+                let answer = ffi::relations_check_latest(file, verdicts);
+                proved_row = answer.row;
+                (answer.count, answer.number)
+            },
+            |verdicts| {
+                let (count, row) = plain::relations_check_latest(file, verdicts)?;
+                plain_row = row;
+                Ok(count)
+            },
+        );
+        self.same(|| "the latest relations row".to_string(), proved_row, plain_row, file, 0);
+        let verdicts = verdicts?;
+        self.tally.note_verdicts(&verdicts);
+        Ok((plain_row, verdicts))
+    }
+
     pub fn listing(&mut self, input: &[u8], room: usize) -> Result<Vec<u8>, u8> {
         self.written(
             Call::Listing,

@@ -74,6 +74,15 @@ pub struct Counted {
     pub number: u8,
 }
 
+/// `row` is the one checked.
+#[repr(C)]
+#[derive(Clone, Copy, Debug, PartialEq, Eq)]
+pub struct CountedRow {
+    pub count: usize,
+    pub row: usize,
+    pub number: u8,
+}
+
 impl From<Written> for (usize, u8) {
     fn from(answer: Written) -> Self {
         (answer.length, answer.number)
@@ -118,7 +127,7 @@ const ENDINGS: [Ending; 3] = [Ending::Counted, Ending::Found, Ending::ByMiniChun
 
 #[rustfmt::skip]
 mod c {
-    use super::{Counted, Description, Ends, ParentAnswer, Part, Reading, Row, Serial, Written};
+    use super::{Counted, CountedRow, Description, Ends, ParentAnswer, Part, Reading, Row, Serial, Written};
 
     extern "C" {
         pub fn ads_description_new() -> Description;
@@ -150,6 +159,7 @@ mod c {
             buffer: *mut u8, buffer_length: usize) -> Written;
         pub fn ads_relations_write(file: *const u8, length: usize, buffer: *mut u8, buffer_length: usize) -> Written;
         pub fn ads_relations_check(file: *const u8, length: usize, row: usize, verdicts: *mut u32, room: usize) -> Counted;
+        pub fn ads_relations_check_latest(file: *const u8, length: usize, verdicts: *mut u32, room: usize) -> CountedRow;
         pub fn ads_listing(input: *const u8, length: usize, buffer: *mut u8, buffer_length: usize) -> Written;
     }
 }
@@ -317,6 +327,14 @@ pub fn relations_check(file: &[u8], row: usize, verdicts: &mut [u32]) -> Counted
     })
 }
 
+pub fn relations_check_latest(file: &[u8], verdicts: &mut [u32]) -> CountedRow {
+    lent(file, |file| {
+        lent_mut(verdicts, |verdicts| unsafe {
+            c::ads_relations_check_latest(file.as_ptr(), file.len(), verdicts.as_mut_ptr(), verdicts.len())
+        })
+    })
+}
+
 pub fn listing(input: &[u8], buffer: &mut [u8]) -> Written {
     lent(input, |input| {
         lent_mut(buffer, |buffer| unsafe {
@@ -328,7 +346,7 @@ pub fn listing(input: &[u8], buffer: &mut [u8]) -> Written {
 /// Calls in which a length is claimed that is over 2^30, or over the buffer's, beside a pointer to few bytes.
 #[rustfmt::skip]
 pub mod claimed {
-    use super::{c, Counted, Description, Ends, ParentAnswer, Part, Reading, Table, Written};
+    use super::{c, Counted, CountedRow, Description, Ends, ParentAnswer, Part, Reading, Table, Written};
 
     const FEW: [u8; 8] = [0; 8];
 
@@ -387,6 +405,11 @@ pub mod claimed {
     pub fn relations_check(length: usize, verdicts: &mut [u32; 2]) -> Counted {
         assert!(length > 1 << 30);
         unsafe { c::ads_relations_check(few(length).0, length, 0, verdicts.as_mut_ptr(), verdicts.len()) }
+    }
+
+    pub fn relations_check_latest(length: usize, verdicts: &mut [u32; 2]) -> CountedRow {
+        assert!(length > 1 << 30);
+        unsafe { c::ads_relations_check_latest(few(length).0, length, verdicts.as_mut_ptr(), verdicts.len()) }
     }
 
     pub fn listing(input: usize, buffer: (&mut [u8; 8], usize)) -> Written {

@@ -7,6 +7,7 @@ mod c {
         pub fn kernel_find_plain(mark: *const u8, mark_length: usize, s: *const u8, length: usize) -> usize;
         pub fn kernel_find(mark: *const u8, mark_length: usize, s: *const u8, length: usize) -> super::Found;
         pub fn kernel_hash(s: *const u8, length: usize) -> u64;
+        pub fn kernel_day(date: *const u8, length: usize) -> u32;
     }
 }
 
@@ -41,4 +42,10 @@ pub fn find(mark: &[u8], s: &[u8]) -> Found {
 /// The hash by which the index finds a serial number.
 pub fn hash(serial: &[u8; 38]) -> u64 {
     unsafe { c::kernel_hash(serial.as_ptr(), serial.len()) }
+}
+
+/// The day number of a date; none where the bytes aren't one.
+pub fn day(date: &[u8]) -> Option<u32> {
+    let number = unsafe { c::kernel_day(date.as_ptr(), date.len()) };
+    (number > 0).then_some(number)
 }

@@ -4,7 +4,7 @@
 //! | module | holds |
 //! |---|---|
 //! | `ffi` | the C interface |
-//! | `kernels` | inner functions of the library: two sums, two searches, the hash of a serial number |
+//! | `kernels` | inner functions of the library: two sums, two searches, the hash of a serial number, day numbers |
 //! | `random` | seeded numbers |
 //! | `build`, `generate` | files built field by field; valid files of every kind |
 //! | `simple` | files of very many empty chunks |

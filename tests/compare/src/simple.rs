@@ -1,12 +1,13 @@
 //! Chunks with nothing special about them, and files of very many empty ones, which differ in serial number and sum alone, or in
-//! what their one dependency names and in their sub-format too.
+//! what their one dependency names, in their sub-format and in their writing date too.
 
 use plain::{field, Reading, Serial};
 
 use crate::both::Run;
 use crate::build::{filled, Chunk, Closing, Contents, File, Times};
-use crate::generate::{with_check, MULTI_CHUNK};
+use crate::generate::{with_check, MULTI_CHUNK, RELATIONS};
 use crate::random::Random;
+use crate::relations::text;
 
 pub fn closing(serial: Serial) -> Closing {
     Closing {
@@ -115,6 +116,13 @@ impl Many {
         many
     }
 
+    /// Relation chunks, each with the heading alone.
+    pub fn relations(serials: &[Serial]) -> Self {
+        let mut blank = chunk([0; 38], Contents::Counted(text(&[])));
+        blank.sub_format = RELATIONS.to_vec();
+        Many::like(&blank, serials)
+    }
+
     fn like(blank: &Chunk, serials: &[Serial]) -> Self {
         let mut file = File::new(false, b"", &closing(counted(1)[0]));
         file.push(blank);
@@ -169,6 +177,11 @@ impl Many {
     /// Gives a row another sub-format.
     pub fn rename(&mut self, row: usize, sub_format: &[u8]) {
         self.change(row, Self::NAME, &filled(sub_format, 256));
+    }
+
+    /// Gives a row another writing date.
+    pub fn date(&mut self, row: usize, written: &[u8; 8]) {
+        self.change(row, self.blank.len() - 254 + 163, written);
     }
 
     /// Puts other bytes at a place of a row's chunk, and the sum that belongs to it.

@@ -12,11 +12,12 @@ pub enum Call {
     Gather,
     RelationsWrite,
     RelationsCheck,
+    RelationsLatest,
     Listing,
 }
 
 /// Each call and the numbers that it can give.
-const CALLS: [(&str, &[u8]); 9] = [
+const CALLS: [(&str, &[u8]); 10] = [
     ("begin", &[0, 2, 3, 6, 11, 15, 18]),
     ("read", &[0, 1, 2, 3, 4, 5, 6, 7, 8, 9, 10, 11]),
     ("parent", &[0, 11, 13, 14]),
@@ -25,12 +26,13 @@ const CALLS: [(&str, &[u8]); 9] = [
     ("gather", &[0, 11, 13, 14, 18]),
     ("rel. write", &[0, 11, 18]),
     ("rel. check", &[0, 11, 13, 18, 19, 20]),
+    ("rel. latest", &[0, 11, 13, 18, 20]),
     ("listing", &[0, 11, 18]),
 ];
 
 #[derive(Default)]
 pub struct Tally {
-    times: [[u64; 21]; 9],
+    times: [[u64; 21]; 10],
     endings: [u64; 3],
     verdicts: [u64; 3],
     spaced: u64,
@@ -61,19 +63,19 @@ impl Tally {
     pub fn print(&self) {
         print!("{:>10}", "number");
         for (name, _) in CALLS {
-            print!("{name:>11}");
+            print!("{name:>12}");
         }
         println!("{:>10}", "all");
         for number in 0..21 {
             print!("{number:>10}");
             for times in &self.times {
-                print!("{:>11}", times[number]);
+                print!("{:>12}", times[number]);
             }
             println!("{:>10}", self.times.iter().map(|times| times[number]).sum::<u64>());
         }
         print!("{:>10}", "all");
         for times in &self.times {
-            print!("{:>11}", times.iter().sum::<u64>());
+            print!("{:>12}", times.iter().sum::<u64>());
         }
         println!("{:>10}", self.total());
         let [counted, found, by_mini_chunks] = self.endings;

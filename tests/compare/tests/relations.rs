@@ -58,9 +58,11 @@ impl Rows {
         self.many.bytes.extend(&relations);
         let written = run.relations_write(&self.many.bytes, whole.len());
         let verdicts = run.relations_check(&self.many.bytes, last, right.len() + 1);
+        let latest = run.relations_check_latest(&self.many.bytes, right.len() + 1);
         self.many.truncate(last);
         assert!(written == Ok(whole), "{} rows", last + 1);
         assert!(verdicts.as_deref() == Ok(right), "{} rows, {} lines", last + 1, lines.len());
+        assert!(latest == verdicts.map(|verdicts| (last, verdicts)), "{} rows, {} lines", last + 1, lines.len());
     }
 
     /// Rows beside the borders of windows, the first and the last one.
@@ -175,5 +177,31 @@ fn relations_rows() {
         let right = text(&listed.map(|(row, parent)| line(&serials[row], NAME, parent, NAME)));
         assert_eq!(right.len(), HEADING_BYTES + listed.len() * LINE_BYTES);
         assert_eq!(Run::new(0).relations_write(&many.bytes, right.len()), Ok(right), "{count}");
+    }
+}
+
+/// So many relations rows and no other: all of one day; the first, one at a border and the last one a day later, each alone;
+/// all three; and one that lies between two of them a day later still.
+#[test]
+fn latest_of_many() {
+    for count in [3_000, WINDOW + 1].into_iter().filter(|&count| count < WINDOW || !left_out()) {
+        let mut many = Many::relations(&random(count));
+        let mut run = Run::new(0);
+        let mut holds = |many: &Many, row| assert_eq!(run.relations_check_latest(&many.bytes, 0), Ok((row, vec![])));
+        holds(&many, count - 1);
+        let places = [0, count / 2, WINDOW.min(count) - 1, count - 1];
+        for row in places {
+            many.date(row, b"20240302");
+            holds(&many, row);
+            many.date(row, b"20240301");
+        }
+        for row in places {
+            many.date(row, b"20240302");
+            holds(&many, row);
+        }
+        many.date(1, b"20240303");
+        holds(&many, 1);
+        many.rename(1, b"ADS\\SYS\\Relation");
+        holds(&many, count - 1);
     }
 }

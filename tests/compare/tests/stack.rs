@@ -43,6 +43,10 @@ fn relations() {
     let mut verdicts = [0; Case::LINES];
     in_small_thread(|| assert_eq!(ffi::relations_check(&file, case.last + 1, &mut verdicts).count, Case::LINES));
     assert_eq!(verdicts, [1; Case::LINES]);
+    in_small_thread(|| {
+        let answer = ffi::relations_check_latest(&file, &mut verdicts);
+        assert_eq!((answer.count, answer.row), (Case::LINES, case.last + 1));
+    });
 }
 
 #[test]

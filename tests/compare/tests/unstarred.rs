@@ -52,6 +52,7 @@ fn no_bytes() {
         assert_eq!(Run::new(0).gather(&[], row, b"P2/91", 100), Err(13));
         assert_eq!(Run::new(0).relations_check(&[], row, 0), Err(13));
     }
+    assert_eq!(Run::new(0).relations_check_latest(&[], 0), Err(13));
     assert_eq!(Run::new(0).relations_write(&[], HEADING_BYTES).map(|text| text.len()), Ok(HEADING_BYTES));
     assert_eq!(Run::new(0).relations_write(&[], HEADING_BYTES - 1), Err(18));
 }

@@ -31,6 +31,8 @@ pub struct Chunk<'a> {
     pub offset: i64,
     pub multichunk: bool,
     pub ending: Ending,
+    /// The day number of Chunk_Writing_Date.
+    pub written: u32,
     stated_sum: u8,
 }
 
@@ -68,6 +70,7 @@ impl<'a> Chunk<'a> {
             offset: header.offset,
             multichunk: header.multichunk,
             ending,
+            written: integrity.written,
             stated_sum: integrity.stated_sum,
         })
     }

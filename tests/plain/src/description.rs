@@ -1,7 +1,7 @@
 //! The fields of a new chunk, "built by chained methods that take it by value and hand it back".
 
 use crate::chunk::is_multi_chunk;
-use crate::field::{is_serial, is_text, offset, padded, Serial};
+use crate::field::{is_text, offset, padded, serial_day, Serial};
 use crate::writer::{Given, Writer};
 
 /// A field that isn't given is out of form, a text that isn't given is empty.
@@ -99,5 +99,5 @@ impl<'a> Checked<'a> {
 
 /// "The 38 bytes must be a serial number after ALT, SLV and MAS".
 fn listed(word: [u8; 3], free: &[&[u8; 3]], with_serial: &[&[u8; 3]], serial: &Serial) -> bool {
-    free.contains(&&word) || with_serial.contains(&&word) && is_serial(serial)
+    free.contains(&&word) || with_serial.contains(&&word) && serial_day(serial).is_some()
 }

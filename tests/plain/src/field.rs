@@ -30,20 +30,40 @@ pub fn is_text(bytes: &[u8]) -> bool {
     bytes.iter().all(|byte| (32..=126).contains(byte))
 }
 
-/// "Date: I4 year from 1, I2 month, I2 day, Gregorian."
-pub fn is_date(bytes: &[u8]) -> bool {
-    let (Some(year), Some(month), Some(day)) = (number(&bytes[..4]), number(&bytes[4..6]), number(&bytes[6..8])) else {
-        return false;
-    };
-    let leap = year % 4 == 0 && (year % 100 != 0 || year % 400 == 0);
-    let days = match month {
-        1 | 3 | 5 | 7 | 8 | 10 | 12 => 31,
+/// "Date: I4 year from 1, I2 month, I2 day, Gregorian." "Reading a date shall also give its day number, where 1 January of
+/// year 1 is 1."
+pub fn day(bytes: &[u8]) -> Option<u32> {
+    let [year, month, day] = [number(&bytes[..4])?, number(&bytes[4..6])?, number(&bytes[6..8])?];
+    if year < 1 || !(1..=12).contains(&month) || !(1..=month_days(year, month)).contains(&(day as u32)) {
+        return None;
+    }
+    let months: u32 = (1..month).map(|month| month_days(year, month)).sum();
+    Some(BEFORE_YEAR[year] + months + day as u32)
+}
+
+/// The days before 1 January of each year, counted year by year.
+static BEFORE_YEAR: [u32; 10_000] = {
+    let mut days = [0; 10_000];
+    let mut year = 2;
+    while year < 10_000 {
+        days[year] = days[year - 1];
+        let mut month = 1;
+        while month <= 12 {
+            days[year] += month_days(year - 1, month);
+            month += 1;
+        }
+        year += 1;
+    }
+    days
+};
+
+const fn month_days(year: usize, month: usize) -> u32 {
+    match month {
         4 | 6 | 9 | 11 => 30,
-        2 if leap => 29,
+        2 if year % 4 == 0 && (year % 100 != 0 || year % 400 == 0) => 29,
         2 => 28,
-        _ => return false,
-    };
-    year >= 1 && (1..=days).contains(&day)
+        _ => 31,
+    }
 }
 
 /// "Offset: sign + or -, I2 hours to 23, I2 minutes to 59, N11 seconds below 60."
@@ -78,17 +98,18 @@ fn seconds(bytes: &[u8]) -> Option<i64> {
 }
 
 /// "Serial number, 38 bytes: "#", date, I2 hour to 23, I2 minute and I2 second to 59, I3 millisecond, A12 processor,
-/// I5 random to 65535, I3 check. The check is the first 35 bytes added byte by byte, modulo 256."
-pub fn is_serial(bytes: &Serial) -> bool {
-    bytes[0] == b'#'
-        && is_date(&bytes[1..9])
+/// I5 random to 65535, I3 check. The check is the first 35 bytes added byte by byte, modulo 256." Gives its date's day
+/// number.
+pub fn serial_day(bytes: &Serial) -> Option<u32> {
+    let good = bytes[0] == b'#'
         && number_to(&bytes[9..11], 23)
         && number_to(&bytes[11..13], 59)
         && number_to(&bytes[13..15], 59)
         && number_to(&bytes[15..18], 999)
         && is_text(&bytes[18..30])
         && number_to(&bytes[30..35], 65535)
-        && count(&bytes[35..38]) == Some(usize::from(sum(&bytes[..35])))
+        && count(&bytes[35..38]) == Some(usize::from(sum(&bytes[..35])));
+    day(&bytes[1..9]).filter(|_| good)
 }
 
 /// "serials are compared by their first 35 bytes"

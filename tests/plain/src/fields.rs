@@ -71,12 +71,9 @@ impl<'a> Fields<'a> {
         }
     }
 
-    pub fn date(&mut self) -> Result<(), u8> {
-        if field::is_date(self.take(8)?) {
-            Ok(())
-        } else {
-            Err(FORM)
-        }
+    /// Answers the day number.
+    pub fn date(&mut self) -> Result<u32, u8> {
+        field::day(self.take(8)?).ok_or(FORM)
     }
 
     pub fn offset(&mut self) -> Result<i64, u8> {
@@ -85,11 +82,7 @@ impl<'a> Fields<'a> {
 
     pub fn serial(&mut self) -> Result<&'a Serial, u8> {
         let serial = self.array()?;
-        if field::is_serial(serial) {
-            Ok(serial)
-        } else {
-            Err(FORM)
-        }
+        field::serial_day(serial).map(|_| serial).ok_or(FORM)
     }
 
     /// A label, an I12 and no LF yet: "A length is tested [..] before the LF".

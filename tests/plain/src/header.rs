@@ -56,6 +56,8 @@ fn title(title: &[u8; TITLE_BYTES]) -> Result<(bool, usize), u8> {
 
 pub struct Integrity<'a> {
     pub serial: &'a Serial,
+    /// The day number of Chunk_Writing_Date.
+    pub written: u32,
     pub stated_sum: u8,
 }
 
@@ -66,10 +68,10 @@ impl<'a> Integrity<'a> {
         let serial = fields.line(b"Chunk_Serial_Number=", Fields::serial)?;
         fields.line(b"Chunk_Recording_Date=", Fields::date)?;
         fields.line(b"Chunk_Recording_Agent=", Fields::text::<32>)?;
-        fields.line(b"Chunk_Writing_Date=", Fields::date)?;
+        let written = fields.line(b"Chunk_Writing_Date=", Fields::date)?;
         fields.line(b"Chunk_Writing_Agent=", Fields::text::<32>)?;
         let stated_sum =
             fields.line(b"Chunk_Integrity_Checksum=", |fields| u8::try_from(fields.count(3)?).map_err(|_| FORM))?;
-        Ok(Integrity { serial, stated_sum })
+        Ok(Integrity { serial, written, stated_sum })
     }
 }

@@ -41,7 +41,7 @@ pub use listing::listing;
 pub use parent::{parent, Parent};
 pub use part::{contents, gather};
 pub use reading::{read, Reading, Row};
-pub use relations::{relations_check, relations_write, DECLARED, MALFORMED, UNDECLARED};
+pub use relations::{relations_check, relations_check_latest, relations_write, DECLARED, MALFORMED, UNDECLARED};
 
 /// An I12 and the places of a file of 2^30 bytes are held as `usize`.
 const _: () = assert!(usize::BITS >= 64);

@@ -3,7 +3,7 @@
 use std::collections::{HashMap, HashSet};
 
 use crate::chunk::Chunk;
-use crate::field::{compared, is_serial, is_text, padded};
+use crate::field::{compared, is_text, padded, serial_day};
 use crate::number::{over_limit, HEADING, LIMIT, RELATIONS, ROOM, ROW};
 use crate::reading::rows;
 
@@ -73,7 +73,22 @@ pub fn relations_check(file: &[u8], row: usize, verdicts: &mut [u32]) -> Result<
     if over_limit(&[file.len()]) {
         return Err(LIMIT);
     }
+    check(file, &rows(file).collect::<Vec<Chunk>>(), row, verdicts)
+}
+
+/// "It decides which of several relation chunks holds: the latest Chunk_Writing_Date, and of equal dates the later row."
+/// "The relations check of U1 uses this choice when no row is named; with no such row it gives 13." Answers the row too.
+pub fn relations_check_latest(file: &[u8], verdicts: &mut [u32]) -> Result<(usize, usize), u8> {
+    if over_limit(&[file.len()]) {
+        return Err(LIMIT);
+    }
     let rows: Vec<Chunk> = rows(file).collect();
+    let relations = rows.iter().enumerate().filter(|(_, chunk)| is_relations(chunk.sub_format));
+    let (row, _) = relations.max_by_key(|(row, chunk)| (chunk.written, *row)).ok_or(ROW)?;
+    Ok((check(file, &rows, row, verdicts)?, row))
+}
+
+fn check(file: &[u8], rows: &[Chunk], row: usize, verdicts: &mut [u32]) -> Result<usize, u8> {
     let chunk = rows.get(row).ok_or(ROW)?;
     if !is_relations(chunk.sub_format) {
         return Err(RELATIONS);
@@ -112,7 +127,7 @@ fn verdict(file: &[u8], rows: &HashMap<&[u8], &Chunk>, line: &[u8]) -> Option<u3
 
 /// "<Serial Number> is the verbatim serial number"
 fn is_serial_field(field: &[u8]) -> bool {
-    field.try_into().is_ok_and(is_serial)
+    field.try_into().ok().and_then(serial_day).is_some()
 }
 
 /// "the A256 is the verbatim SubFormat_ID"

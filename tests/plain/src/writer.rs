@@ -1,6 +1,6 @@
 //! Bytes written one after another into a lent buffer that is long enough.
 
-use crate::field::{self, is_date, is_serial, is_text, padded, Serial};
+use crate::field::{self, day, is_text, padded, serial_day, Serial};
 
 pub struct Writer<'b> {
     buffer: &'b mut [u8],
@@ -60,8 +60,8 @@ impl Given {
         (written, writer): ([u8; 8], &[u8]),
     ) -> Option<Self> {
         let (recorder, writer) = (padded(recorder)?, padded(writer)?);
-        let good =
-            is_serial(&serial) && is_date(&recorded) && is_text(&recorder) && is_date(&written) && is_text(&writer);
+        let days = [serial_day(&serial), day(&recorded), day(&written)];
+        let good = days.iter().all(Option::is_some) && is_text(&recorder) && is_text(&writer);
         good.then_some(Given { serial, recorded, recorder, written, writer })
     }
 

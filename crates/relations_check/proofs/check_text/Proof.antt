@@ -47,24 +47,19 @@ counted c = c .before
 abbrev entry : tie.Else2 → tie.Start
 entry c = start (counted c .before .before)
 
-last-requires : tie.Need-last-requires
-last-requires c κs = entry (c .before) .pre .0
-
 room : (c : tie.Else2) → counted c .count .result ≤ length (entry c .args .verdicts .now)
 room c = omega (arith, c .if2 .left)
 
 put-forms-requires : tie.Need-put-forms-requires
 put-forms-requires c κs =
-    let e = c .before .before .before .before .before in
+    let e = c .before in
     omega (arith, room e, counted e .count .ensures)
 
 judge-rows-requires : tie.Need-judge-rows-requires
 judge-rows-requires c κs =
     let p = c .before .before .before .before in
-    let i = p .before .before in
-    let l = i .before .before in
-    let e = l .before .before in
-    (l .last .ensures .0, (entry e .pre .1, (l .last .ensures .1, judging-none _ _ _ _ (p .put-forms .ensures))))
+    let k = entry (p .before .before) in
+    (k .pre .0, (k .pre .1 .0, (k .pre .1 .1, judging-none _ _ _ _ (p .put-forms .ensures))))
 
 same-length : tie.Need-same-length
 same-length c = search needs
@@ -76,7 +71,7 @@ returns-3 : tie.Need-returns-3
 returns-3 c =
     let j = c .before .before .before .before in
     let p = j .before .before .before .before .before in
-    let e = p .before .before .before .before .before .before in
+    let e = p .before .before in
     let h = counted e .before in
     text-checked _ _ _ _ (heads (h .before)) (not-false _ (h .if1 .left)) _ (counted e .count .ensures) (room e) _ (j .judge-rows .ensures ∙ judged-tail _ _ _ _ (judging-tail _ _ _ _ (p .put-forms .ensures)))
 
@@ -90,7 +85,6 @@ check-text-spec =
     returns
     count-requires
     returns-2
-    last-requires
     put-forms-requires
     judge-rows-requires
     same-length

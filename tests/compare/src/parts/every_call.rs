@@ -107,7 +107,9 @@ fn parents(run: &mut Run, case: &Case) {
 fn relations(run: &mut Run, case: &Case) {
     let text = run.relations_write(&case.bytes, HEADING_BYTES + Case::LINES * LINE_BYTES).expect("there is room");
     let file = case.with_relations(text);
-    assert_eq!(run.relations_check(&file, case.last + 1, Case::LINES), Ok(vec![1; Case::LINES]));
+    let declared = vec![1; Case::LINES];
+    assert_eq!(run.relations_check(&file, case.last + 1, Case::LINES), Ok(declared.clone()));
+    assert_eq!(run.relations_check_latest(&file, Case::LINES), Ok((case.last + 1, declared)));
 }
 
 /// Whether the file grows.

@@ -35,6 +35,8 @@ fn real(run: &mut Run) {
     let _ = run.relations_write(&long[1..], 200);
     let _ = run.relations_check(&long, 0, 2);
     let _ = run.relations_check(&long[1..], 0, 2);
+    let _ = run.relations_check_latest(&long, 2);
+    let _ = run.relations_check_latest(&long[1..], 2);
     let _ = run.listing(&long, 100);
 
     let serial = [b' '; 38];
@@ -132,7 +134,8 @@ fn claims(run: &mut Run) {
 
         let mut verdicts = [7; 2];
         one(run, Call::RelationsCheck, claimed::relations_check(length, &mut verdicts).number);
-        run.demand(verdicts == [7; 2], "the check touched the list", b"", 0);
+        one(run, Call::RelationsLatest, claimed::relations_check_latest(length, &mut verdicts).number);
+        run.demand(verdicts == [7; 2], "a check touched the list", b"", 0);
 
         let d = ffi::Description::new();
         one(run, Call::Append, claimed::append((&mut buffer, length), 8, d, 1, 1).number);

@@ -5,6 +5,7 @@ pub mod begins;
 pub mod cuts;
 pub mod damaged;
 pub mod every_call;
+pub mod latest;
 pub mod limits;
 pub mod listings;
 pub mod marks;
@@ -38,5 +39,6 @@ pub fn look(run: &mut Run, random: &mut Random, file: &[u8], count: usize) {
     if random.one_in(8) {
         let _ = run.relations_write(file, 50 * room);
         let _ = run.relations_check(file, row, room);
+        let _ = run.relations_check_latest(file, room);
     }
 }

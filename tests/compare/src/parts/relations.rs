@@ -1,6 +1,8 @@
 //! Files with relations rows first, last, twice, anywhere and none: the text written for each, and the contents of each row
 //! checked: as they were written, in another order, with lines changed, and appended.
 
+use std::fmt::Debug;
+
 use plain::Serial;
 
 use crate::both::Run;
@@ -81,7 +83,7 @@ fn depend(random: &mut Random, dependencies: &mut Vec<(Serial, Vec<u8>)>, known:
     }
 }
 
-fn with_chunks(start: &File, chunks: &[Chunk]) -> File {
+pub fn with_chunks(start: &File, chunks: &[Chunk]) -> File {
     let mut file = start.clone();
     for chunk in chunks {
         file.push(chunk);
@@ -100,7 +102,7 @@ pub fn written(run: &mut Run, file: &[u8], text: &[u8]) {
 }
 
 /// Open where the mark isn't found too early, and counted.
-fn either(random: &mut Random, file: &File, contents: Vec<u8>) -> Contents {
+pub fn either(random: &mut Random, file: &File, contents: Vec<u8>) -> Contents {
     let joined = [&contents[..], &file.mark].concat();
     let found = joined.windows(file.mark.len().max(1)).position(|part| part == file.mark);
     match file.nul && found == Some(contents.len()) && random.one_in(2) {
@@ -110,7 +112,7 @@ fn either(random: &mut Random, file: &File, contents: Vec<u8>) -> Contents {
 }
 
 /// The lines in their order or another, some of them changed or repeated, with their heading.
-fn contents(random: &mut Random, lines: &[Vec<u8>]) -> Vec<u8> {
+pub fn contents(random: &mut Random, lines: &[Vec<u8>]) -> Vec<u8> {
     let mut lines = lines.to_vec();
     if random.one_in(2) {
         random.shuffle(&mut lines);
@@ -165,7 +167,8 @@ fn checked(run: &mut Run, random: &mut Random, file: &File) {
         let answer = run.relations_check(bytes, row, 400);
         let refused = if is_relations(name) { 20 } else { 19 };
         run.demand(answer.as_ref().err().is_none_or(|&number| number == refused), &format!("{answer:?}"), bytes, 0);
-        rooms(run, bytes, row, answer);
+        let count = answer.as_ref().map_or(0, Vec::len);
+        rooms(run, bytes, count, answer, |run, room| run.relations_check(bytes, row, room));
     }
     let beyond = file.rows.len() + random.pick(&[0, 1, usize::MAX >> 1]);
     let answer = run.relations_check(bytes, beyond, 9);
@@ -173,12 +176,17 @@ fn checked(run: &mut Run, random: &mut Random, file: &File) {
 }
 
 /// The same answer into a list that is just long enough, and 18 where an entry less is lent; other refusals into none.
-pub fn rooms(run: &mut Run, file: &[u8], row: usize, answer: Result<Vec<u32>, u8>) {
-    let count = answer.as_ref().map_or(0, Vec::len);
-    let exact = run.relations_check(file, row, count);
+pub fn rooms<T: Debug + PartialEq>(
+    run: &mut Run,
+    file: &[u8],
+    count: usize,
+    answer: Result<T, u8>,
+    check: impl Fn(&mut Run, usize) -> Result<T, u8>,
+) {
+    let exact = check(run, count);
     run.demand(exact == answer, &format!("{exact:?}, not {answer:?}"), file, 0);
     if count > 0 {
-        let short = run.relations_check(file, row, count - 1);
+        let short = check(run, count - 1);
         run.demand(short == Err(18), &format!("{short:?}, not 18"), file, 0);
     }
 }

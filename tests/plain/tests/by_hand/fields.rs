@@ -1,4 +1,4 @@
-use plain::field::{is_date, is_serial, is_text, offset};
+use plain::field::{day, is_text, offset, serial_day};
 
 use crate::serial;
 
@@ -7,16 +7,16 @@ use crate::serial;
 fn serial_number() {
     let text = b"#20240229123456789SURVEYDESK0100042001";
     assert_eq!(text[..35].iter().map(|&byte| u32::from(byte)).sum::<u32>(), 2049);
-    assert!(is_serial(text));
-    assert!(!is_serial(b"#20240229123456789SURVEYDESK0100042002"));
-    assert!(!is_serial(b"#20240229123456789SURVEYDESK0100042257"));
+    assert_eq!(serial_day(text), Some(738_945));
+    assert_eq!(serial_day(b"#20240229123456789SURVEYDESK0100042002"), None);
+    assert_eq!(serial_day(b"#20240229123456789SURVEYDESK0100042257"), None);
 }
 
 /// "Random 65535 fits, 65536: 6."
 #[test]
 fn random() {
-    assert!(is_serial(&serial(65535)));
-    assert!(!is_serial(&serial(65536)));
+    assert_eq!(serial_day(&serial(65535)), Some(738_945));
+    assert_eq!(serial_day(&serial(65536)), None);
 }
 
 /// The serial with these bytes at a place, and a right check.
@@ -32,7 +32,8 @@ fn changed(at: usize, bytes: &[u8]) -> [u8; 38] {
 fn parts_of_a_serial_number() {
     let good: [(usize, &[u8]); 5] = [(9, b"23"), (11, b"5959"), (15, b"999"), (18, b"~           "), (1, b"00010101")];
     for (at, bytes) in good {
-        assert!(is_serial(&changed(at, bytes)), "{at} {bytes:?}");
+        let right = if at == 1 { 1 } else { 738_945 };
+        assert_eq!(serial_day(&changed(at, bytes)), Some(right), "{at} {bytes:?}");
     }
     let bad: [(usize, &[u8]); 9] = [
         (0, b"$"),
@@ -46,16 +47,31 @@ fn parts_of_a_serial_number() {
         (30, b"-0001"),
     ];
     for (at, bytes) in bad {
-        assert!(!is_serial(&changed(at, bytes)), "{at} {bytes:?}");
+        assert_eq!(serial_day(&changed(at, bytes)), None, "{at} {bytes:?}");
     }
 }
 
-/// "20240229 and 20000229 are dates, 20230229 and 19000229 aren't."
+/// "20240229 and 20000229 are dates, 20230229 and 19000229 aren't." "1 January of year 1 is 1", "31 December 9999 is
+/// 3,652,059".
 #[test]
 fn dates() {
-    for date in [b"20240229", b"20000229", b"00010101", b"99991231", b"20240430"] {
-        assert!(is_date(date), "{date:?}");
+    for (date, number) in [
+        (b"00010101", 1),
+        (b"00011231", 365),
+        (b"00020101", 366),
+        (b"16000229", 584_082),
+        (b"19700101", 719_163),
+        (b"20000101", 730_120),
+        (b"20000228", 730_178),
+        (b"20000229", 730_179),
+        (b"20000301", 730_180),
+        (b"20240229", 738_945),
+        (b"20240430", 739_006),
+        (b"99991231", 3_652_059),
+    ] {
+        assert_eq!(day(date), Some(number), "{date:?}");
     }
+    assert_eq!(day(b"19000228").map(|number| number + 1), day(b"19000301"));
     for date in [
         b"20230229",
         b"19000229",
@@ -67,7 +83,7 @@ fn dates() {
         b"20240431",
         b"2024 101",
     ] {
-        assert!(!is_date(date), "{date:?}");
+        assert_eq!(day(date), None, "{date:?}");
     }
 }
 

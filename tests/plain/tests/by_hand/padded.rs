@@ -1,6 +1,6 @@
 //! "Older recorders pad numbers with spaces."
 
-use plain::field::{compared, count, is_serial};
+use plain::field::{compared, count, serial_day};
 use plain::{append, listing, parent, Parent, Serial};
 
 use crate::calls::{description, lent};
@@ -44,7 +44,7 @@ fn all_digits() {
         first[at..at + text.len()].copy_from_slice(text.as_bytes());
         let check = first.iter().map(|&byte| u32::from(byte)).sum::<u32>() % 256;
         first.extend(format!("{check:03}").bytes());
-        assert!(!is_serial(&first.try_into().unwrap()), "{text}");
+        assert_eq!(serial_day(&first.try_into().unwrap()), None, "{text}");
     }
     let file = [header("LLC", b""), chunk(b"", 42, 4, b"abc")].concat();
     for (old, new) in
@@ -67,9 +67,10 @@ pub fn other(random: u32) -> Serial {
 #[test]
 fn checks() {
     assert_eq!(&other(42)[35..], b"  1");
-    assert!(is_serial(&other(42)) && compared(&other(42)) == compared(&serial(42)));
-    assert!(!is_serial(b"#20240229123456789SURVEYDESK0100042   "));
-    assert!(!is_serial(b"#20240229123456789SURVEYDESK01000421  "));
+    assert_eq!(serial_day(&other(42)), serial_day(&serial(42)));
+    assert_eq!(compared(&other(42)), compared(&serial(42)));
+    assert_eq!(serial_day(b"#20240229123456789SURVEYDESK0100042   "), None);
+    assert_eq!(serial_day(b"#20240229123456789SURVEYDESK01000421  "), None);
     // data for which the sum is below 10
     let bytes = |last: u8| [&header("LLC", b"")[..], &chunk(b"", 42, 4, &[b'a', b'b', last])].concat();
     let file = (0..=255).map(bytes).find(|file| file[file.len() - 4..].starts_with(b"00")).unwrap();

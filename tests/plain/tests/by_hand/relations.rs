@@ -1,6 +1,8 @@
 //! "The Master Relation Chunk."
 
-use plain::{append, relations_check, relations_write, Serial};
+use std::fmt::Debug;
+
+use plain::{append, relations_check, relations_check_latest, relations_write, Serial};
 
 use crate::calls::{description, lent};
 use crate::padded::other;
@@ -59,22 +61,29 @@ fn written(file: &[u8]) -> String {
     String::from_utf8(exact).unwrap()
 }
 
-/// The verdicts on a row, into a list that is longer, and one that is just as long; one that is shorter gets 18.
-fn checked(file: &[u8], row: usize) -> Result<Vec<u32>, u8> {
+/// What a check answers and writes, into a list that is longer, and one that is just as long; one that is shorter gets 18.
+fn listed<T: Copy + Debug + PartialEq>(
+    check: impl Fn(&mut [u32]) -> Result<T, u8>,
+    count: impl Fn(T) -> usize,
+) -> Result<(T, Vec<u32>), u8> {
     let mut list = vec![7; 30];
-    let answer = relations_check(file, row, &mut list);
-    let count = answer.unwrap_or(0);
+    let answer = check(&mut list);
+    let count = answer.map_or(0, count);
     assert!(list[count..].iter().all(|&entry| entry == 7));
-    answer?;
     let mut exact = vec![7; count];
-    assert_eq!(relations_check(file, row, &mut exact), Ok(count));
+    assert_eq!(check(&mut exact), answer);
     assert_eq!(exact, list[..count]);
     if count > 0 {
         let mut short = vec![7; count - 1];
-        assert_eq!(relations_check(file, row, &mut short), Err(18));
+        assert_eq!(check(&mut short), Err(18));
         assert!(short.iter().all(|&entry| entry == 7));
     }
-    Ok(exact)
+    answer.map(|answer| (answer, exact))
+}
+
+/// The verdicts on a row.
+fn checked(file: &[u8], row: usize) -> Result<Vec<u32>, u8> {
+    listed(|list| relations_check(file, row, list), |count| count).map(|(_, verdicts)| verdicts)
 }
 
 /// The verdicts on contents that stand as row 3 behind the family.
@@ -292,6 +301,78 @@ fn judged_as_by_parent() {
     assert_eq!((written(&bad_sums), checked(&bad_sums, 1)), (text, Ok(vec![1])));
 }
 
+/// A relation chunk with these dates of recording and writing, and one line of each verdict: declared, undeclared, malformed.
+fn dated(random: u32, recorded: &str, written: &str, verdict: u32) -> Vec<u8> {
+    let line = match verdict {
+        1 => declared(),
+        2 => relation(&serial(43), EDIT, &serial(43), EDIT),
+        _ => "ADS relation".to_string(),
+    };
+    let chunk = depending(random, RELATIONS, &[], lined(&[line]).as_bytes());
+    let chunk = with(&chunk, "Recording_Date=20240229", &format!("Recording_Date={recorded}"));
+    with(&chunk, "Writing_Date=20240301", &format!("Writing_Date={written}"))
+}
+
+/// The row that holds and its verdicts, which are those of that row by its number.
+fn latest(file: &[u8]) -> Result<(usize, Vec<u32>), u8> {
+    let ((_, row), verdicts) = listed(|list| relations_check_latest(file, list), |(count, _)| count)?;
+    assert_eq!(checked(file, row).as_ref(), Ok(&verdicts));
+    Ok((row, verdicts))
+}
+
+/// "the latest Chunk_Writing_Date, and of equal dates the later row"; the family stands between the first and the second.
+#[test]
+fn the_one_that_holds() {
+    let of = |chunks: [Vec<u8>; 3]| {
+        let [first, second, third] = chunks;
+        latest(&file(&[vec![first], family(), vec![second, third]].concat()))
+    };
+    let day = |random, written, verdict| dated(random, "20240229", written, verdict);
+    for (written, row, verdict) in [
+        (["20240301", "20240302", "20240303"], 5, 3),
+        (["20240303", "20240302", "20240301"], 0, 1),
+        (["20240301", "20240303", "20240302"], 4, 2),
+        (["20240301", "20240301", "20240301"], 5, 3),
+        (["20240301", "20240301", "20240229"], 4, 2),
+        (["00010101", "99991231", "99991230"], 4, 2),
+        (["20231231", "20221231", "20240101"], 5, 3),
+        (["20240101", "20231231", "20230131"], 0, 1),
+    ] {
+        let chunks = [day(50, written[0], 1), day(51, written[1], 2), day(52, written[2], 3)];
+        assert_eq!(of(chunks), Ok((row, vec![verdict])), "{written:?}");
+    }
+    // the recording dates in the other order, and the serial numbers
+    let crossed = [dated(52, "20240301", "20240303", 1), dated(51, "20240302", "20240302", 2)];
+    let [first, second] = crossed;
+    assert_eq!(of([first, second, dated(50, "20240303", "20240301", 3)]), Ok((0, vec![1])));
+}
+
+/// "with no such row it gives 13"; date and row alone are asked in choosing.
+#[test]
+fn what_isnt_asked() {
+    let [old, new] = [dated(50, "20240229", "20240301", 1), dated(51, "20240229", "20240302", 2)];
+    let all = |last: &[u8]| file(&[family(), vec![old.clone(), last.to_vec()]].concat());
+    assert_eq!(latest(&all(&new)), Ok((4, vec![2])));
+    assert_eq!(checked(&all(&new), 3), Ok(vec![1]));
+    // a bad sum: `dated` changed the dates behind it
+    let mut good = new.clone();
+    let at = good.len() - 4;
+    let sum = good[..at].iter().map(|&byte| u32::from(byte)).sum::<u32>() % 256;
+    good[at..at + 3].copy_from_slice(format!("{sum:03}").as_bytes());
+    assert!(good != new && latest(&all(&good)) == Ok((4, vec![2])));
+    // a wrong heading: 20, and not the other one's verdicts; another sub-format; cut short; once more
+    assert_eq!(latest(&all(&with(&new, "ADS Metafile", "ads Metafile"))), Err(20));
+    assert_eq!(latest(&all(&with(&new, "ADS\\SYS\\Relations", "ADS\\SYS\\relations"))), Ok((3, vec![1])));
+    assert_eq!(latest(&all(&new[..new.len() - 1])), Ok((3, vec![1])));
+    assert_eq!(latest(&[all(&old), new.clone()].concat()), Ok((3, vec![1])));
+    for nothing in [&b""[..], b"x", &header("LLC", b"")[..318], &header("LLC", b""), &file(&family())] {
+        assert_eq!(latest(nothing), Err(13));
+    }
+    // 11, 13, 20, 18, in this order
+    assert_eq!(relations_check_latest(&all(&with(&new, "ADS Metafile", "ads Metafile")), &mut []), Err(20));
+    assert_eq!(relations_check_latest(&all(&new), &mut []), Err(18));
+}
+
 /// 11 of check is the file's alone: the list is no byte buffer.
 #[test]
 fn over_the_limit() {
@@ -302,6 +383,8 @@ fn over_the_limit() {
     assert_eq!(relations_write(b"", &mut long[1..]), Ok(131));
     assert_eq!(relations_check(&long, 0, &mut []), Err(11));
     assert_eq!(relations_check(&long[1..], 0, &mut []), Err(13));
+    assert_eq!(relations_check_latest(&long, &mut []), Err(11));
+    assert_eq!(relations_check_latest(&long[1..], &mut []), Err(13));
     drop(long);
     let bytes = file(&[depending(50, RELATIONS, &[], lined(&["ADS relation".to_string()]).as_bytes())]);
     let mut list = vec![0; (1 << 28) + 1];

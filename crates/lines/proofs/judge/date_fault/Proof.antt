@@ -16,7 +16,7 @@ returns-2 : tie.Need-returns-2
 unfolding dateFault
 returns-2 c =
     let args = c .before .before .before .before .before .args in
-    judged 8 dateFault (args .s .now) (args .at) (c .verdict .result) (omega arith) (omega arith) (c .verdict .ensures ∙ rw (c .before .is-date .ensures))
+    judged 8 dateFault (args .s .now) (args .at) (c .fault .result) (omega arith) (omega arith) (c .fault .ensures ∙ rw (c .before .read-date .ensures))
 
 pub date-fault-spec : {M : Type 1} → statement M
 date-fault-spec =

@@ -16,8 +16,8 @@ returns-2 : tie.Need-returns-2
 unfolding serialFault
 returns-2 c =
     let args = c .before .before .before .before .before .before .args in
-    judged 38 serialFault (args .s .now) (args .at) (c .verdict .result) (omega arith) (omega arith)
-    (c .verdict .ensures ∙ rw (c .before .is-serial .ensures, c .before .before .serial-from .ensures, serial-taken (args .s .now) (args .at)))
+    judged 38 serialFault (args .s .now) (args .at) (c .fault .result) (omega arith) (omega arith)
+    (c .fault .ensures ∙ rw (c .before .read-serial .ensures, c .before .before .serial-from .ensures, serial-taken (args .s .now) (args .at)))
 
 pub serial-fault-spec : {M : Type 1} → statement M
 serial-fault-spec =
