@@ -23,8 +23,8 @@ extern "C" {
 #endif
 
 /* The version of this header and of its library; the number is major * 1000000 + minor * 1000 + patch. */
-#define ADS_VERSION "0.7.0"
-#define ADS_VERSION_NUMBER 7000
+#define ADS_VERSION "0.8.0"
+#define ADS_VERSION_NUMBER 8000
 
 /* ---- sizes */
 
@@ -56,6 +56,10 @@ extern "C" {
    and a line feed before it. */
 #define ADS_MOST_VERDICTS(bytes) ((bytes) / 13)
 
+/* Bytes that are enough for ads_price of a file with so many rows: a line has at most 7, 10 and 18 digits and 3 bytes
+   more, the last one 25 bytes. ADS_MOST_ROWS(length) rows are enough for any file. */
+#define ADS_PRICE_ROOM(rows) (38 * (rows) + 25)
+
 /* ---- the numbers: docs/numbers.tsv */
 
 /* 1 to 9 are faults of the bytes at ads_read's stop, and of what ads_begin and ads_append were given. */
@@ -83,11 +87,12 @@ enum {
     ADS_MARK_ZERO = 15,     /* begin, append: the mark has a zero byte */
     ADS_OPEN = 16,          /* append: open under LLC or for BIN, or the mark is first found before the data's end */
     ADS_MULTICHUNK = 17,    /* append: of a MultiChunk */
-    ADS_NO_ROOM = 18,       /* begin, append, gather, relations_write, listing: the lent buffer is too short for the
-                               result; relations_check, relations_check_latest: the list is */
+    ADS_NO_ROOM = 18,       /* begin, append, gather, relations_write, price, listing: the lent buffer is too short for
+                               the result; relations_check, relations_check_latest: the list is */
     ADS_NOT_RELATIONS = 19, /* relations_check: the row's sub-format isn't ADS\SYS\Relations */
-    ADS_HEADING = 20        /* relations_check, relations_check_latest: the first line of the contents isn't the
+    ADS_HEADING = 20,       /* relations_check, relations_check_latest: the first line of the contents isn't the
                                heading */
+    ADS_TOTAL = 21          /* price: the total is 10^18 cents or more */
 };
 
 /* A number in words, for a message. */
@@ -115,6 +120,7 @@ static inline const char *ads_words(int number)
     case ADS_NO_ROOM: return "the buffer or list is too short for the result";
     case ADS_NOT_RELATIONS: return "the row isn't a relation chunk";
     case ADS_HEADING: return "the heading line of the relation chunk differs";
+    case ADS_TOTAL: return "the total has more than 18 digits";
     default: return "no such number";
     }
 }
@@ -193,6 +199,15 @@ typedef struct ads_part {
     uint8_t number;      /* 16 */
 } ads_part;              /* 24 bytes */
 
+/* header, chunks and unread add to the file's length. */
+typedef struct ads_priced {
+    size_t length;  /*  0: bytes of the statement, at the start of the buffer */
+    size_t header;  /*  8: bytes of the file header, 319 and twice the mark's; 0 if it isn't whole */
+    size_t chunks;  /* 16: bytes of the chunks in rows, end less place */
+    size_t unread;  /* 24: bytes from the stop on */
+    uint8_t number; /* 32 */
+} ads_priced;       /* 40 bytes */
+
 /* ---- the file */
 
 /* Writes a file header at the start of the buffer, ADS_BEGIN_ROOM(mark_length) bytes. strategy is "LLC" or "NUL"; a
@@ -243,6 +258,14 @@ ads_counted ads_relations_check(const uint8_t *file, size_t length, size_t row, 
    aren't asked in choosing: a wrong heading is 20, whatever others there are. Tests 11 (of the file alone), 13 (no row is
    a relation chunk, also where the file has no whole header), 20, 18. */
 ads_counted_row ads_relations_check_latest(const uint8_t *file, size_t length, uint32_t *verdicts, size_t room);
+
+/* Writes the price statement of the file: for each row its number, its contents bytes and its cents, then "total" and
+   the sum of the cents; a line each, with spaces between, LF behind, and no leading zeros. A row with a good sum costs
+   `fee` cents, and `rate` cents for each started 1,024 contents bytes, none for no bytes; a row with a bad sum costs 0.
+   Both rates are any numbers. It also answers the file's bytes in three parts. ADS_PRICE_ROOM says how many bytes are
+   enough. Bytes past the length keep their state. Tests 11 (file, buffer), 21, 18. */
+ads_priced ads_price(const uint8_t *file, size_t length, uint64_t fee, uint64_t rate, uint8_t *buffer,
+                     size_t buffer_length);
 
 /* Writes the listing of the file's table as text: header sum ("header none" of a file of no bytes), count, a line for
    each row, stop and number. An input over 65,536 bytes is no refusal: its text is "end 0 11" and LF.

@@ -13,7 +13,7 @@ from pathlib import Path
 sys.path.insert(0, str(Path(__file__).resolve().parent))
 
 from ads_metafile import WORDS, __version__  # noqa: E402
-from ads_metafile.command import checking, listing, parts  # noqa: E402
+from ads_metafile.command import checking, listing, parts, pricing  # noqa: E402
 from ads_metafile.command.parser import DESCRIPTION, make_parser  # noqa: E402
 
 SYNOPSIS = ("ads SUBCOMMAND [OPTION ..] FILE ..", "ads [SUBCOMMAND] --help", "ads --version")
@@ -30,7 +30,8 @@ A closed standard output ends the command quietly, with the status that was earn
 need one."""
 MESSAGES = """
 On standard error, one line each: the file, the number of the refusal, its words, what can be done. Names with
-characters that aren't printable are quoted, with escapes."""
+characters that aren't printable are quoted, with escapes. The three parts that price prints there are no messages: the
+lines are header, chunks and unread, each with its number."""
 LOCKS = """
 append and cut-back take an exclusive lock by flock(2) and wait for it up to --wait seconds. Under it they see whether
 the file was replaced meanwhile, and open it anew. Before each write the file must have the length that was left; if
@@ -111,7 +112,8 @@ def manual() -> str:
     lines += [*section("LOCKS", LOCKS), *section("POWER FAILURES", POWER), *section("JSON", JSON)]
     lines += tagged([("list", ", ".join((*listing.ABOUT, "rows"))), ("each of rows", ", ".join(listing.COLUMNS)),
                      ("check", ", ".join(checking.JSON_NAMES)), ("parents", "file, dependencies"),
-                     ("each of dependencies", ", ".join(parts.JSON_NAMES))])
+                     ("each of dependencies", ", ".join(parts.JSON_NAMES)), ("price", ", ".join(pricing.JSON_NAMES)),
+                     ("each of its rows", ", ".join(pricing.ROW_NAMES))])
     lines += [".SH FILES", *tagged(FILES), ".SH ENVIRONMENT", *tagged(ENVIRONMENT)]
     return "\n".join(lines) + "\n"
 

@@ -113,6 +113,17 @@ def relations_dated() -> bytes:
     return child_and_parent() + b"".join(relation_chunk(*chunk) for chunk in chunks)
 
 
+def stray_byte() -> bytes:
+    """What a price statement tells apart: contents of 0, 1, 1,024 and 1,025 bytes, a bad sum, a MultiChunk; and one
+    byte behind them."""
+    numbers = [serial("%05d" % random) for random in range(42, 48)]
+    return (header("LLC", b"")
+            + b"".join(plain(b"", number, b"x" * length) for number, length in zip(numbers, (0, 1, 1024, 1025)))
+            + plain(b"", numbers[4], b"abc", off=1)
+            + multi(b"", numbers[5], [DEPTH], [("P2/91", b"12345"), ("P2/91", b"")])
+            + b"\n")
+
+
 def good() -> dict[str, bytes]:
     """Clean files, of two of them a sum is bad; and a file of no bytes, which reads with 0 and isn't clean."""
     return {
@@ -148,6 +159,7 @@ def damaged_chunk() -> dict[str, bytes]:
     return {
         "damaged-04-cut": two_chunks()[:1178 + 600],
         "damaged-04-open-mark": open_chunk(b"M" * 89 + b"N"),
+        "damaged-04-stray-byte": stray_byte(),
         "damaged-05-label": changed(one, b"SubFormat_ID=", b"Subformat_ID="),
         "damaged-05-word": changed(one, b"Generic_Type=TXT", b"Generic_Type=ASC"),
         "damaged-05-content-length": changed(one, content_length(4), content_length(3)),

@@ -7,6 +7,7 @@
 mod calls;
 mod files;
 mod many;
+mod prices;
 mod relations;
 mod timing;
 
@@ -47,6 +48,7 @@ fn main() {
 }
 
 /// What a part says of the best times so far.
+#[derive(Default)]
 struct Report {
     lines: Vec<String>,
     goals: Vec<String>,
@@ -56,10 +58,10 @@ struct Report {
 type Part = (&'static str, fn(&mut Vec<f64>) -> Report);
 
 #[rustfmt::skip]
-const PARTS: [Part; 13] = [
+const PARTS: [Part; 14] = [
     ("sums", both_sums), ("i", large), ("ii", small), ("iii", open), ("iv", mini_chunks), ("v", growth),
     ("vii", small_open), ("viii", hostile_marks), ("ix", many::growth), ("x", many::hostile),
-    ("xi", relations::relations), ("xii", relations::latest), ("append", long_append),
+    ("xi", relations::relations), ("xii", relations::latest), ("xiii", prices::prices), ("append", long_append),
 ];
 
 type Sum = fn(&[u8]) -> u8;
@@ -262,6 +264,14 @@ fn line(name: &str, pair: &[f64], bytes: usize, sum: Option<f64>) -> String {
         speed(pair[1]),
         sum.map_or("".to_string(), speed)
     )
+}
+
+/// Of a reading, the proved and the plain call: the line, and how many readings the proved one takes.
+fn in_readings(report: &mut Report, name: &str, times: &[f64], bytes: usize, most: f64) {
+    let readings = times[1] / times[0];
+    report.lines.push(line(name, &times[1..], bytes, None));
+    report.lines.push(format!("{:48} {readings:10.2}   readings of the file, {:.3} ms each", "", times[0] * 1e3));
+    report.goals.push(goal(&format!("{name}, in readings"), readings, most, false));
 }
 
 fn goal(name: &str, value: f64, limit: f64, least: bool) -> String {

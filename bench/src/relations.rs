@@ -12,7 +12,7 @@ use plain::Serial;
 
 use crate::calls::proved_rows;
 use crate::timing::turn;
-use crate::{goal, line, Report};
+use crate::{in_readings, Report};
 
 const SIZES: [usize; 3] = [1_000, 10_000, 100_000];
 
@@ -23,31 +23,17 @@ const CALLS: [(&str, f64); 3] = [("written", 5.0), ("checked, in order", 5.0), (
 const TIMES: usize = 3 * CALLS.len();
 
 pub fn relations(kept: &mut Vec<f64>) -> Report {
-    let (mut lines, mut goals) = (Vec::new(), Vec::new());
+    let mut report = Report::default();
     kept.resize(SIZES.len() * TIMES, f64::INFINITY);
     for (&chunks, kept) in SIZES.iter().zip(kept.chunks_mut(TIMES)) {
         let files = files(chunks);
         one_turn(kept, &files, chunks);
         for (((name, most), file), times) in CALLS.iter().zip(&files).zip(kept.chunks(3)) {
             let name = format!("(xi) relations {name}, {chunks}");
-            in_readings((&mut lines, &mut goals), &name, times, file.len(), *most);
+            in_readings(&mut report, &name, times, file.len(), *most);
         }
     }
-    Report { lines, goals }
-}
-
-/// Of a reading, the proved and the plain call: the line, and how many readings the proved one takes.
-fn in_readings(
-    (lines, goals): (&mut Vec<String>, &mut Vec<String>),
-    name: &str,
-    times: &[f64],
-    bytes: usize,
-    most: f64,
-) {
-    let readings = times[1] / times[0];
-    lines.push(line(name, &times[1..], bytes, None));
-    lines.push(format!("{:48} {readings:10.2}   readings of the file, {:.3} ms each", "", times[0] * 1e3));
-    goals.push(goal(&format!("{name} chunks, in readings"), readings, most, false));
+    report
 }
 
 /// Chunks with a dependency each, and so many relation chunks behind them.
@@ -56,7 +42,7 @@ const LATEST: [usize; 3] = [1, 3, 10_000];
 
 /// (xii) The check of the latest of several relation chunks, beside a reading of the same file.
 pub fn latest(kept: &mut Vec<f64>) -> Report {
-    let (mut lines, mut goals) = (Vec::new(), Vec::new());
+    let mut report = Report::default();
     kept.resize(LATEST.len() * 3, f64::INFINITY);
     for (&count, times) in LATEST.iter().zip(kept.chunks_mut(3)) {
         let (file, row) = with_latest(count);
@@ -73,9 +59,9 @@ pub fn latest(kept: &mut Vec<f64>) -> Report {
         );
         assert!(lists.iter().all(|list| list.iter().all(|&verdict| verdict == plain::DECLARED)));
         let name = format!("(xii) relations checked, latest of {count}");
-        in_readings((&mut lines, &mut goals), &name, times, file.len(), 5.0);
+        in_readings(&mut report, &name, times, file.len(), 5.0);
     }
-    Report { lines, goals }
+    report
 }
 
 /// The relation chunk in the middle is the latest and has the text for the file; the others have a heading alone. Answers its

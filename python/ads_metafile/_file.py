@@ -8,10 +8,11 @@ from mmap import mmap
 from types import TracebackType
 from typing import Any, Iterator, NamedTuple, overload
 
-from . import _relations, _rows
+from . import _pricing, _relations, _rows
 from ._library import MOST_BYTES, Text, accepted, call, size, text
 from ._memory import BytesLike, Lent, anonymous, view
 from ._numbers import WORDS
+from ._pricing import Statement
 from ._relations import Checked, Verdict
 from ._rows import Record, Row, most_rows
 
@@ -215,6 +216,18 @@ class File:
         return _relations.latest_of(self._bytes(), max((record[4] for record in self.records()), default=0))
 
     # ---- the whole table
+
+    def price(self, chunk: int, kib: int) -> Statement:
+        """The price statement: for each row its contents bytes and its cents, and the total.
+
+        A row with a good sum costs `chunk` cents, and `kib` cents for each started 1,024 contents bytes; one with a bad
+        sum costs 0. Both are numbers from 0 to 2^64 - 1. Refused with 21 where the total has more than 18 digits.
+
+        >>> import ads_metafile
+        >>> ads_metafile.read(b"not a metafile").price(chunk=100, kib=7)
+        Statement(text='total 0\\n', header=0, chunks=0, unread=14)
+        """
+        return _pricing.statement_of(self._bytes(), self._count, chunk, kib)
 
     def listing(self) -> str:
         """The library's own listing of the table. Of a file over 65,536 bytes it is "end 0 11" and a line feed."""

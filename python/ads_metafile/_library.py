@@ -7,7 +7,7 @@ from __future__ import annotations
 import ctypes
 import operator
 import os
-from ctypes import Structure, c_bool, c_char_p, c_int64, c_size_t, c_uint8, c_void_p
+from ctypes import Structure, c_bool, c_char_p, c_int64, c_size_t, c_uint8, c_uint64, c_void_p
 from functools import cache
 from typing import Any, TypeAlias
 
@@ -19,8 +19,8 @@ Text: TypeAlias = str | bytes
 
 MOST_BYTES = 2**30
 SONAME = "libads.so.0"
-VERSION_NODE = "ADS_0.7"
-NEWEST = "ads_relations_check_latest"
+VERSION_NODE = "ADS_0.8"
+NEWEST = "ads_price"
 """The version that the package needs, and a function that has it."""
 _REMEDY = f"run `make` in the repository, or set ADS_LIBRARY to the path of {SONAME}"
 
@@ -59,6 +59,11 @@ class Part(Structure):
     _fields_ = [("place", c_size_t), ("bytes", c_size_t), ("number", c_uint8)]
 
 
+class Priced(Structure):
+    _fields_ = [("length", c_size_t), ("header", c_size_t), ("chunks", c_size_t), ("unread", c_size_t),
+                ("number", c_uint8)]
+
+
 class Text256(Structure):
     _fields_ = [("bytes", c_uint8 * 256), ("given", c_size_t)]
 
@@ -89,6 +94,7 @@ _SIGNATURES: dict[str, tuple[Any, ...]] = {
     "ads_relations_write": (Written, *_LENT, *_LENT),
     "ads_relations_check": (Counted, *_LENT, c_size_t, *_LENT),
     "ads_relations_check_latest": (CountedRow, *_LENT, *_LENT),
+    "ads_price": (Priced, *_LENT, c_uint64, c_uint64, *_LENT),
     "ads_listing": (Written, *_LENT, *_LENT),
     "ads_append": (Ends, *_LENT, c_size_t, DescriptionStruct, *_LENT, *_LENT, *_LENT, c_bool),
     "ads_description_new": (DescriptionStruct,),
@@ -167,7 +173,7 @@ def accepted(name: str, *arguments: Any) -> Any:
 
 
 def size(number: int, what: str) -> int:
-    """The number, where it fits in size_t; it never wraps."""
+    """The number, where it fits in size_t or uint64_t; it never wraps."""
     number = operator.index(number)
     if not 0 <= number < 2**64:
         raise ValueError(f"{what} is {number}, outside 0 to 2^64 - 1")

@@ -7,7 +7,7 @@ from __future__ import annotations
 OK = 0
 TITLE, TAPE, MARK_MINI, CUT, DIFFERS, FORM, LENGTH, SHORT_ID, REPEATED = range(1, 10)
 ROWS_FULL, LIMIT, NOT_CLEAN, NO_ROW, NO_DEPENDENCY, MARK_ZERO, OPEN, MULTICHUNK, NO_ROOM = range(10, 19)
-NOT_RELATIONS, HEADING = range(19, 21)
+NOT_RELATIONS, HEADING, TOTAL = range(19, 22)
 
 _LIST = (
     ("OK", "no refusal"),
@@ -31,6 +31,7 @@ _LIST = (
     ("NO_ROOM", "the buffer or list is too short for the result"),
     ("NOT_RELATIONS", "the row isn't a relation chunk"),
     ("HEADING", "the heading line of the relation chunk differs"),
+    ("TOTAL", "the total has more than 18 digits"),
 )
 
 NAMES: dict[int, str] = {number: name for number, (name, _) in enumerate(_LIST)}

@@ -51,6 +51,15 @@ pub struct Part {
     pub number: u8,
 }
 
+#[repr(C)]
+pub struct Priced {
+    pub length: usize,
+    pub header: usize,
+    pub chunks: usize,
+    pub unread: usize,
+    pub number: u8,
+}
+
 extern "C" {
     pub fn ads_begin(
         strategy: *const u8,
@@ -82,6 +91,14 @@ extern "C" {
     pub fn ads_relations_write(file: *const u8, length: usize, buffer: *mut u8, buffer_length: usize) -> Written;
     pub fn ads_relations_check(file: *const u8, length: usize, row: usize, verdicts: *mut u32, room: usize) -> Counted;
     pub fn ads_relations_check_latest(file: *const u8, length: usize, verdicts: *mut u32, room: usize) -> CountedRow;
+    pub fn ads_price(
+        file: *const u8,
+        length: usize,
+        fee: u64,
+        rate: u64,
+        buffer: *mut u8,
+        buffer_length: usize,
+    ) -> Priced;
     pub fn ads_listing(input: *const u8, length: usize, buffer: *mut u8, buffer_length: usize) -> Written;
     pub fn ads_append(
         buffer: *mut u8,

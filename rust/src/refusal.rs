@@ -95,7 +95,7 @@ refusals! {
     /// By [`append`](crate::append).
     Multichunk = 17, "a MultiChunk can't be appended";
     /// By [`begin`](crate::begin), [`append`](crate::append), [`gather`](crate::gather),
-    /// [`relations_write`](crate::relations_write) and [`listing`](crate::listing), and by
+    /// [`relations_write`](crate::relations_write), [`price`](crate::price) and [`listing`](crate::listing), and by
     /// [`relations_check`](crate::relations_check) and [`relations_check_latest`](crate::relations_check_latest) of
     /// their list.
     NoRoom = 18, "the buffer or list is too short for the result";
@@ -103,6 +103,8 @@ refusals! {
     NotRelations = 19, "the row isn't a relation chunk";
     /// By [`relations_check`](crate::relations_check) and [`relations_check_latest`](crate::relations_check_latest).
     Heading = 20, "the heading line of the relation chunk differs";
+    /// By [`price`](crate::price).
+    Total = 21, "the total has more than 18 digits";
 }
 
 impl Refusal {

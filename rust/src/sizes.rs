@@ -64,6 +64,16 @@ pub const fn most_verdicts(bytes: usize) -> usize {
     bytes / 13
 }
 
+/// Bytes that are enough for [`price`](crate::price) of a file with so many rows; [`most_rows`] of its length are enough for
+/// any file. A line has at most 7, 10 and 18 digits and three bytes more, the last one 25 bytes.
+///
+/// ```
+/// assert_eq!(ads::price_room(2), 38 * 2 + 25);
+/// ```
+pub const fn price_room(rows: usize) -> usize {
+    38 * rows + 25
+}
+
 /// Bytes of a file of `length` bytes and the chunk that [`append`](crate::append) adds to it. [`MOST_MARK`] for the
 /// mark's length is enough for any file.
 ///

@@ -1,5 +1,5 @@
 //! The sample of the specification, and one answer of each kind from every call.
-use ads::{Checked, Description, Ending, Ends, Header, Parent, Refusal, Row, Verdict};
+use ads::{Checked, Description, Ending, Ends, Header, Parent, Refusal, Row, Statement, Verdict};
 
 const HEADER: Header = Header {
     strategy: b"LLC",
@@ -191,10 +191,10 @@ fn refusals() {
 fn numbers_of_refusals() {
     for number in 0..=u8::MAX {
         let refusal = Refusal::from_number(number);
-        assert_eq!(refusal.is_some(), (1..=20).contains(&number));
+        assert_eq!(refusal.is_some(), (1..=21).contains(&number));
         assert!(refusal.is_none_or(|refusal| refusal.number() == number && u8::from(refusal) == number));
     }
-    assert!(Refusal::Title < Refusal::Heading);
+    assert!(Refusal::Title < Refusal::Total);
     let error: Box<dyn std::error::Error> = Refusal::NotClean.into();
     assert_eq!(error.to_string(), "the file isn't clean (12)");
 }
@@ -290,4 +290,35 @@ fn relations_appended() {
     assert_eq!(Verdict::from_number(verdicts[0]), Some(Verdict::Declared));
     let latest = ads::relations_check_latest(&buffer[..ends.third], &mut verdicts);
     assert_eq!(latest, Ok(Checked { row: 2, count: 1 }));
+}
+
+/// Chunks of 0, 1, 1,024 and 1,025 bytes, one with a bad sum, a MultiChunk, and a byte behind.
+#[test]
+fn price() {
+    let file = include_bytes!("../../samples/damaged-04-stray-byte.ads");
+    let text = b"0 0 100\n1 1 107\n2 1024 107\n3 1025 114\n4 3 0\n5 652 107\ntotal 535\n";
+    let mut buffer = vec![7; ads::price_room(6)];
+    let statement = Statement { length: text.len(), header: 319, chunks: 7807, unread: 1 };
+    assert_eq!(ads::price(file, 100, 7, &mut buffer[..text.len() - 1]), Err(Refusal::NoRoom));
+    assert!(buffer.iter().all(|byte| *byte == 7));
+    assert_eq!(ads::price(file, 100, 7, &mut buffer), Ok(statement));
+    assert_eq!(&buffer[..text.len()], text);
+    assert!(buffer[text.len()..].iter().all(|byte| *byte == 7));
+    assert_eq!(ads::price(file, 200_000_000_000_000_000, 0, &mut []), Err(Refusal::Total));
+    assert_eq!(ads::price(file, 0, u64::MAX, &mut buffer), Err(Refusal::Total));
+
+    let none = Statement { length: 8, header: 0, chunks: 0, unread: 0 };
+    assert_eq!(ads::price(b"", u64::MAX, u64::MAX, &mut buffer), Ok(none));
+    assert_eq!(&buffer[..8], b"total 0\n");
+    assert_eq!(ads::price(&[0; 64], 1, 1, &mut buffer), Ok(Statement { unread: 64, ..none }));
+}
+
+/// The highest total.
+#[test]
+fn price_of_18_digits() {
+    let (file, length) = sample();
+    let mut buffer = vec![0; ads::price_room(1)];
+    let statement = ads::price(&file[..length], 999_999_999_999_999_999, 0, &mut buffer).unwrap();
+    assert_eq!(&buffer[..statement.length], b"0 3 999999999999999999\ntotal 999999999999999999\n");
+    assert_eq!(ads::price(&file[..length], 999_999_999_999_999_999, 1, &mut buffer), Err(Refusal::Total));
 }

@@ -63,6 +63,13 @@ PLACE(ads_part, place, 0);
 PLACE(ads_part, bytes, 8);
 PLACE(ads_part, number, 16);
 
+SIZE(ads_priced, 40);
+PLACE(ads_priced, length, 0);
+PLACE(ads_priced, header, 8);
+PLACE(ads_priced, chunks, 16);
+PLACE(ads_priced, unread, 24);
+PLACE(ads_priced, number, 32);
+
 SIZE(ads_text256, 264);
 PLACE(ads_text256, bytes, 0);
 PLACE(ads_text256, given, 256);
@@ -97,3 +104,4 @@ static_assert(ADS_APPEND_ROOM(319, 0, 0, 0, 3) == 1178, "ADS_APPEND_ROOM");
 static_assert(ADS_APPEND_ROOM(0, 1, 1, 1, 1) == 856 + 2 + 344 + 1 + 1, "ADS_APPEND_ROOM");
 static_assert(ADS_RELATIONS_ROOM(0) == 131 && ADS_RELATIONS_ROOM(1 + 1) == 131 + 605 + 605, "ADS_RELATIONS_ROOM");
 static_assert(ADS_MOST_VERDICTS(130 + 13) >= 1 && ADS_MOST_VERDICTS(12) == 0, "ADS_MOST_VERDICTS");
+static_assert(ADS_PRICE_ROOM(0) == 25 && ADS_PRICE_ROOM(1 + 1) == 25 + 38 + 38, "ADS_PRICE_ROOM");

@@ -60,8 +60,8 @@ def enums() -> list[list[tuple[str, int]]]:
 
 class List(unittest.TestCase):
     def test_order(self) -> None:
-        self.assertEqual(list(listed()), list(range(21)))
-        self.assertEqual(len({name for name, _ in listed().values()}), 21)
+        self.assertEqual(list(listed()), list(range(22)))
+        self.assertEqual(len({name for name, _ in listed().values()}), 22)
 
     def test_words_fit_into_a_message(self) -> None:
         for name, words in listed().values():

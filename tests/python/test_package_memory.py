@@ -93,7 +93,7 @@ class Views(unittest.TestCase):
         uses = (lambda: file.data, lambda: file.strategy, lambda: file.records(), lambda: file.parent(0, 0),
                 lambda: file.contents(0), lambda: file.gather(0, ""), lambda: file.relations_write(),
                 lambda: file.relations_check(0), lambda: file.relations_check_latest(),
-                lambda: file.listing(), lambda: row.serial,
+                lambda: file.price(1, 1), lambda: file.listing(), lambda: row.serial,
                 lambda: row.contents, lambda: file.by_serial(""), lambda: file.parents(0))
         for use in uses:
             with self.assertRaisesRegex(ValueError, "the file is closed"):
@@ -116,13 +116,14 @@ class Views(unittest.TestCase):
             for call in (lambda: opened.contents(9), lambda: file.gather(9, "x"), lambda: opened.parent(0, 0),
                          lambda: opened.relations_check(0), lambda: file.relations_check(0),
                          lambda: opened.relations_check_latest(), lambda: file.relations_check_latest(),
+                         lambda: opened.price(10**18, 0), lambda: file.price(10**18, 0), lambda: file.price(-1, 0),
                          lambda: ads_metafile.append_into(data, 1178, support.description(), data)):
                 try:
                     call()
                 except (Refused, ValueError) as error:
                     kept.append(error)
         data.clear()
-        self.assertEqual(len(kept), 8)
+        self.assertEqual(len(kept), 11)
 
     def test_bytes_of_read_stay_the_callers(self) -> None:
         data = bytearray(SAMPLE.read_bytes())

@@ -46,6 +46,10 @@ class Random(unittest.TestCase):
             for row in file:
                 self.assertEqual(bytes(row.contents), bytes(file.contents(row.index)))
                 self.assertTrue(file.stop >= row.end > row.contents_place > row.place > 0)
+            priced = file.price(100, 7)
+            self.assertEqual(priced.header + priced.chunks + priced.unread, len(data))
+            self.assertEqual(priced.unread, len(data) - file.stop)
+            self.assertEqual((len(priced.rows), sum(row.cents for row in priced.rows)), (len(file), priced.total))
             self.assertIn("end ", file.listing())
             self.assertEqual(len(file.relations_write()) % 605, 131)
             self.assertEqual(file.mark is None, file.stop == 0)
@@ -69,6 +73,7 @@ class Random(unittest.TestCase):
             "row": lambda each: file.parent(each, 0), "dependency": lambda each: file.parent(0, each),
             "contents": file.contents, "gather": lambda each: file.gather(each, "P2/91"),
             "relations": file.relations_check, "short_id": lambda each: file.gather(0, each),
+            "chunk": lambda each: file.price(each, 0), "kib": lambda each: file.price(0, each),
             "read": lambda each: ads_metafile.read(each).listing(),
             "strategy": lambda each: ads_metafile.begin(strategy=each, serial=support.serial(1), recorded="20240229",
                                                         recorder=each, written="20240229", writer=each, mark=each),

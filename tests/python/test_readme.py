@@ -2,6 +2,7 @@
 from __future__ import annotations
 
 import os
+import re
 import shlex
 import shutil
 import subprocess
@@ -43,9 +44,10 @@ class Lines(unittest.TestCase):
         self.addCleanup(folder.cleanup)
         self.folder = Path(folder.name)
 
-    def run_in(self, folder: Path, *words: str, **more: str) -> str:
+    def run_in(self, folder: Path, *words: str, beside: str = "", **more: str) -> str:
+        """What a command prints; on standard error it must print what stands beside."""
         ended = subprocess.run(words, cwd=folder, env=os.environ | more, capture_output=True, text=True, timeout=60)
-        self.assertEqual((ended.returncode, ended.stderr), (0, ""), words)
+        self.assertEqual((ended.returncode, ended.stderr), (0, beside), words)
         return ended.stdout
 
     def test_it_is_short(self) -> None:
@@ -56,14 +58,27 @@ class Lines(unittest.TestCase):
         (self.folder / "bin/ads").symlink_to(REPOSITORY / "python/bin/ads")
         shutil.copy(REPOSITORY / "samples/survey.ads", self.folder)
         path = f"{self.folder}/bin:{os.environ['PATH']}"
-        said = [self.run_in(self.folder, "sh", "-c", line, PATH=path) for line in code("The command")]
-        self.assertEqual(len(said), 10)
+        parts = "header 367\nchunks 6847\nunread 0\n"
+        said = [self.run_in(self.folder, "sh", "-c", line, beside=parts if line.startswith("ads price") else "",
+                            PATH=path) for line in code("The command")]
+        self.assertEqual(len(said), 11)
         self.assertIn("4 chunks; clean: all 7,214 bytes read", said[0])
         self.assertEqual(said[1], "survey.ads: clean, 4 chunks, all sums good\n")
         self.assertEqual((self.folder / "depths.txt").read_text(), "12.5\n12.7\n")
         self.assertEqual((self.folder / "deps.tsv").read_bytes().count(b"\nADS relation\t"), 4)
-        self.assertRegex(said[8], r"^row 0 appended: 319 to 1,223, serial #")
-        self.assertEqual(said[9], "new.ads: clean, 1 chunk; nothing is to be cut\n")
+        self.assertRegex(said[6], r"^0 36 107\n(.*\n){3}total \d+\n$")
+        self.assertRegex(said[9], r"^row 0 appended: 319 to 1,223, serial #")
+        self.assertEqual(said[10], "new.ads: clean, 1 chunk; nothing is to be cut\n")
+
+    def test_the_price(self) -> None:
+        """The example of three lines."""
+        example = re.search(r"`(ads price samples/[^`]+)` prints `([^`]+)`, `([^`]+)` and `([^`]+)`",
+                            " ".join(README.split()))
+        self.assertIsNotNone(example)
+        command, *lines = example.groups()
+        words = [sys.executable, "-B", str(REPOSITORY / "python/bin/ads"), *shlex.split(command)[1:]]
+        parts = "header 319\nchunks 2066\nunread 0\n"
+        self.assertEqual(self.run_in(REPOSITORY, *words, beside=parts).splitlines(), lines)
 
     def test_python(self) -> None:
         program = "\n".join(code("Python"))

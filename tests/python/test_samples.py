@@ -20,7 +20,7 @@ import make  # noqa: E402
 import listings  # noqa: E402
 from support import begun, description  # noqa: E402
 
-MOST_BYTES = 90_000
+MOST_BYTES = 100_000
 
 
 class Told(NamedTuple):
@@ -76,13 +76,14 @@ class Readings(unittest.TestCase):
                     self.assertEqual(file.clean, line.said.startswith("clean, "), line)
                     self.assertEqual(file.clean, line.number == 0 and line.name != "no-bytes.ads", line)
 
-    def test_two_sums_are_bad(self) -> None:
+    def test_three_sums_are_bad(self) -> None:
         bad = []
         for line in told():
             with ads_metafile.open(SAMPLES / line.name) as file:
                 bad += [(line.name, "header")] if file.stop and not file.header_good else []
                 bad += [(line.name, row.index) for row in file if not row.good]
-        self.assertEqual(bad, [("bad-chunk-sum.ads", 0), ("bad-header-sum.ads", "header")])
+        self.assertEqual(bad, [("bad-chunk-sum.ads", 0), ("bad-header-sum.ads", "header"),
+                               ("damaged-04-stray-byte.ads", 4)])
 
     def test_a_power_failure_leaves_the_old_file_up_to_the_stop(self) -> None:
         failures = [line for line in told() if "power" in line.name]
@@ -118,7 +119,8 @@ class Check(unittest.TestCase):
 
 
 class FormatExamples(unittest.TestCase):
-    """docs/FORMAT.md's examples of spaces in front, of offsets, and of open data that hold a part of the mark."""
+    """docs/FORMAT.md's examples of spaces in front, of offsets, of open data that hold a part of the mark, and of a
+    price statement."""
 
     def appended(self, strategy: str, mark: bytes, contents: bytes, is_open: bool, offset: str) -> int:
         """The offset in the row of a chunk that is appended to a file without chunks."""
@@ -158,6 +160,16 @@ class FormatExamples(unittest.TestCase):
         with self.assertRaises(ads_metafile.Refused) as refused:
             self.appended("NUL", b"ABAB", b"QAB", True, "+0000      0.000")
         self.assertEqual(refused.exception.number, ads_metafile.OPEN)
+
+
+    def test_price_statement(self) -> None:
+        whole = (ROOT / "docs" / "FORMAT.md").read_text(encoding="utf-8")
+        section = whole.split("\n## The price statement\n")[1].split("\n## ")[0]
+        text = "".join(line[4:] + "\n" for line in section.splitlines() if line.startswith("    "))
+        parts = re.search(r"has (\d+) header bytes, (\d+) chunk bytes and (\d+) unread byte", " ".join(section.split()))
+        self.assertIsNotNone(parts)
+        with ads_metafile.open(SAMPLES / "damaged-04-stray-byte.ads") as file:
+            self.assertEqual(file.price(100, 7), (text, *map(int, parts.groups())))
 
 
 if __name__ == "__main__":

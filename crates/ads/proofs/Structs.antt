@@ -1,7 +1,7 @@
 -- The structs that the exports answer, from the calls' own answers. A struct tells a refusal by its number, so a refused
 -- call's number may not be 0.
 --     numbered ..-numbered             a refused call's number is not 0
---     written-done written-refused     the struct for a length, and for a number; so for the count, the parent and the ends
+--     written-done written-refused     the struct for a length, and for a number; so for the count, the parent, the ends and the parts
 -- Assumes nothing.
 use Prim.Native.Nat.{ℕ, zero, suc}
 use mathlib.Core.Bool.{Bool, true, false, cond}
@@ -19,12 +19,14 @@ use Rattle.metafile.specs.Calls.{parentTests, parentRow, agree, parent, gather}
 use Rattle.metafile.specs.Relations.{relationsWrite, relationsCheck, relationsRow, withRow, relationsCheckLatest}
 use Rattle.laws.proofs.First.{untrue}
 use Rattle.listing_text.specs.Text.{listingOutcome}
+use Rattle.price.specs.Price.{price}
 use Rattle.ads.specs.declared.answers.Written.{Written}
 use Rattle.ads.specs.declared.answers.Counted.{Counted}
 use Rattle.ads.specs.declared.answers.CountedRow.{CountedRow}
 use Rattle.ads.specs.declared.answers.Parent.{Parent}
 use Rattle.ads.specs.declared.answers.Ends.{Ends}
-use Rattle.ads.specs.Answers.{writtenAnswer, writtenAlone, countedAnswer, countedAlone, countedRowAnswer, countedRowAlone, parentAnswer, parentAlone, endsAnswer, endsAlone}
+use Rattle.ads.specs.declared.answers.Priced.{Priced}
+use Rattle.ads.specs.Answers.{writtenAnswer, writtenAlone, countedAnswer, countedAlone, countedRowAnswer, countedRowAlone, parentAnswer, parentAlone, endsAnswer, endsAlone, pricedAnswer, pricedAlone}
 
 -- ---- a refused call's number is not 0
 
@@ -87,6 +89,10 @@ pub listing-numbered : (input buffer : List ℕ) (n : ℕ) (after : List ℕ) �
 unfolding listingOutcome isResult
 listing-numbered input buffer n after e = writes-numbered _ buffer _ refl n after e
 
+pub price-numbered : (file : List ℕ) (fee rate : ℕ) (buffer : List ℕ) (n : ℕ) (after : List ℕ) → outcome (refused n) after ≡ price file fee rate buffer → n ≡ 0 → ⊥
+unfolding price isResult
+price-numbered file fee rate buffer n after e = writes-numbered _ buffer _ refl n after e
+
 either-result : (b : Bool) (us vs : List ℕ) → isResult (cond b (result us) (result vs)) ≡ true
 unfolding isResult
 either-result true us vs = refl
@@ -146,6 +152,17 @@ module _ (after : List ℕ) (o : Outcome) where
   unfolding endsAnswer choose
   ends-refused zero h e = absurd (h refl)
   ends-refused (suc n) h e = (e, refl)
+
+  pub priced-done : (k h c u : ℕ) → outcome (result (k ∷ h ∷ c ∷ u ∷ [])) after ≡ o
+      → let w : Priced = record { length = k; header = h; chunks = c; unread = u; number = 0 } in (outcome (pricedAnswer w) after ≡ o) × (w ≡ choose 0 w pricedAlone)
+  unfolding pricedAnswer choose
+  priced-done k h c u e = (e, refl)
+
+  pub priced-refused : (n : ℕ) → (n ≡ 0 → ⊥) → outcome (refused n) after ≡ o
+      → (outcome (pricedAnswer (pricedAlone n)) after ≡ o) × (pricedAlone n ≡ choose n (pricedAlone n) pricedAlone)
+  unfolding pricedAnswer choose
+  priced-refused zero h e = absurd (h refl)
+  priced-refused (suc n) h e = (e, refl)
 
 module _ (a : Answer) where
   pub parent-found : (k : ℕ) (b : Bool) → result (k ∷ flag b ∷ []) ≡ a

@@ -10,6 +10,7 @@ use Rattle.ads.specs.declared.answers.Counted.{Counted}
 use Rattle.ads.specs.declared.answers.CountedRow.{CountedRow}
 use Rattle.ads.specs.declared.answers.Parent.{Parent}
 use Rattle.ads.specs.declared.answers.Ends.{Ends}
+use Rattle.ads.specs.declared.answers.Priced.{Priced}
 
 -- begin, gather, the writer of relations, listing: the length
 unfoldable pub writtenAnswer : Written → Answer
@@ -45,3 +46,10 @@ endsAnswer e = choose (e .number) (result (e .first ∷ e .second ∷ e .third �
 
 abbrev pub endsAlone : ℕ → Ends
 endsAlone n = record { first = 0; second = 0; third = 0; number = n }
+
+-- price: the length of the text, header bytes, chunk bytes, unread bytes
+unfoldable pub pricedAnswer : Priced → Answer
+pricedAnswer p = choose (p .number) (result (p .length ∷ p .header ∷ p .chunks ∷ p .unread ∷ [])) (λ n. refused n)
+
+abbrev pub pricedAlone : ℕ → Priced
+pricedAlone n = record { length = 0; header = 0; chunks = 0; unread = 0; number = n }

@@ -39,3 +39,13 @@ pub struct Ends {
     pub third: usize,
     pub number: u8,
 }
+
+// ads_priced: the length of the text, and the file's bytes in three parts.
+#[repr(C)]
+pub struct Priced {
+    pub length: usize,
+    pub header: usize,
+    pub chunks: usize,
+    pub unread: usize,
+    pub number: u8,
+}

@@ -14,11 +14,13 @@ ghost use Rattle.append.specs.Given.{givenOf};
 ghost use Rattle.contents.specs.Outcome.{partOf, partOutcome};
 ghost use Rattle.read.specs.State.{readOutcome};
 ghost use Rattle.listing_text.specs.Text.{listingOutcome};
-ghost use Rattle.ads.specs.Answers.{writtenAnswer, writtenAlone, countedAnswer, countedAlone, countedRowAnswer, countedRowAlone, parentAnswer, parentAlone, endsAnswer, endsAlone};
+ghost use Rattle.price.specs.Price.{price};
+ghost use Rattle.ads.specs.Answers.{writtenAnswer, writtenAlone, countedAnswer, countedAlone, countedRowAnswer, countedRowAlone, parentAnswer, parentAlone, endsAnswer, endsAlone, pricedAnswer, pricedAlone};
 use crate::answers::Counted;
 use crate::answers::CountedRow;
 use crate::answers::Ends;
 use crate::answers::Parent;
+use crate::answers::Priced;
 use crate::answers::Written;
 use contents::Part;
 use listing_text::ListingAnswer;
@@ -33,6 +35,7 @@ use metafile::RelationsLatestAnswer;
 use metafile::RelationsWriteAnswer;
 use metafile::Row;
 use metafile::clean::clean_at;
+use price::PriceAnswer;
 
 #[no_mangle]
 pub extern "C" fn ads_begin(
@@ -222,5 +225,29 @@ pub extern "C" fn ads_listing(input: &[u8], buffer: &mut [u8]) -> Written
     match answer {
         ListingAnswer::Written(length) => Written { length, number: 0 },
         ListingAnswer::Refused(number) => Written { length: 0, number },
+    }
+}
+
+#[no_mangle]
+pub extern "C" fn ads_price(file: &[u8], fee: u64, rate: u64, buffer: &mut [u8]) -> Priced
+    ensures answer { λ r. ⌜ outcome (pricedAnswer r) (now (buffer .exit)) ≡ price (now (file .entry)) fee rate (now (buffer .entry)) ⌝ }
+    ensures alone { λ r. ⌜ r ≡ choose (r .number) r pricedAlone ⌝ }
+{
+    let answer = price::price(file, fee, rate, buffer);
+    match answer {
+        PriceAnswer::Priced(parts) => Priced {
+            length: parts.length,
+            header: parts.header,
+            chunks: parts.chunks,
+            unread: parts.unread,
+            number: 0,
+        },
+        PriceAnswer::Refused(number) => Priced {
+            length: 0,
+            header: 0,
+            chunks: 0,
+            unread: 0,
+            number,
+        },
     }
 }

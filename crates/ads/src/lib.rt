@@ -3,7 +3,7 @@
 // is over none, has the definition of clean. Nothing is required of a caller but what a pointer and its length mean. An answer that is an enum there is a struct here: its number is 0, or the
 // number of the refusal, and then its other values are 0 (specs/Answers).
 //     answers      the structs that are answered
-//     calls        begin, read and whether it is clean, parent, append, contents, gather, relations and the listing
+//     calls        begin, read and whether it is clean, parent, append, contents, gather, relations, the listing and the price
 //     description  the description of a chunk to append
 mod answers;
 mod calls;
@@ -13,5 +13,6 @@ pub use answers::Counted;
 pub use answers::CountedRow;
 pub use answers::Ends;
 pub use answers::Parent;
+pub use answers::Priced;
 pub use answers::Written;
 pub use contents::Part;

@@ -9,6 +9,7 @@
 --     Enough     how many rows are enough
 --     File       the file header, and a reading of the whole file
 --     Places     every row is that of a whole chunk at its place
+--     Follow     the rows stand one behind the other, without a gap
 --     Dependencies   the values of a whole chunk's dependencies, and the chunk of a row
 --     Endings    every row says how its chunk's end was found
 --     Serials    the serials in rows are distinct; looking one up
@@ -22,6 +23,7 @@ pub mod Rows
 pub mod Enough
 pub mod File
 pub mod Places
+pub mod Follow
 pub mod Dependencies
 pub mod Endings
 pub mod Serials

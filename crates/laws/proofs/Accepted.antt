@@ -1,7 +1,7 @@
 -- The tests of a call: the first that holds, lengths over the limit, and what an accepted call answers.
 --     refusal-none   the first refusal is none: the first test doesn't hold, nor do the others
 --     refusal-first refusal-next tests-end   the first test holds; it doesn't; there is none left
---     limit-over limit-within limit-under    a length over the limit; one within it, before others, alone
+--     limit-over limit-within limit-under limit-small   a length over the limit; one within it, before others, alone; by the test
 --     accepted-..    a call that writes answers a result only where no test holds, and then what was defined
 -- Assumes nothing.
 use Prim.Native.Nat.{ℕ, zero, suc, _≤_, _<_}
@@ -9,10 +9,11 @@ use mathlib.Core.Bool.{Bool, true, false, cond, _||_}
 use mathlib.Core.Path.{_≡_, refl, sym, ap, _∙_}
 use mathlib.Core.List.{List, [], _∷_}
 use native.Mathlib.Omega.{arith}
-use borrow.Author.Tests.{lt-ltb, le-ltb}
+use lib.Dec.{ltb}
+use borrow.Author.Tests.{ltb-false, lt-ltb, le-ltb}
 use Rattle.metafile.specs.Bytes.{choose}
 use Rattle.metafile.specs.Answers.{Answer, result, refused, Test, refuse, firstRefusal, limit, overLimit, Outcome, outcome, unlessRefused}
-use Rattle.laws.proofs.First.{cases, choose-go, choose-stop}
+use Rattle.laws.proofs.First.{cases, or-false, choose-go, choose-stop}
 
 pub refusal-none : (n : ℕ) (b : Bool) (ts : List Test) → firstRefusal (refuse (suc n) b ∷ ts) ≡ 0 → (b ≡ false) × (firstRefusal ts ≡ 0)
 unfolding firstRefusal refuse
@@ -44,6 +45,10 @@ limit-within n ns h = rw (le-ltb 1073741824 n h)
 pub limit-under : (n : ℕ) → n ≤ 1073741824 → overLimit (n ∷ []) ≡ false
 unfolding overLimit
 limit-under n h = limit-within n [] h
+
+pub limit-small : (n : ℕ) (ns : List ℕ) → overLimit (n ∷ ns) ≡ false → n ≤ 1073741824
+unfolding overLimit limit
+limit-small n ns e = ltb-false 1073741824 n (or-false (ltb 1073741824 n) (overLimit ns) e .0)
 
 -- ---- a call that writes
 

@@ -1,16 +1,21 @@
 -- What is asked of the numbers below n, and what they give.
 --     any-true any-cases any-none any-next   one of them passes the test, or none does
+--     sum-grows sum-part sum-most   more numbers give no less; one of them; each at most b
+--     sum-same sum-first             the same numbers; the first by itself
+--     join-long                      the length of their lists, one behind the other
 --     Every                          a property of all elements of a list; every-join: of lists one behind the other
 -- Assumes nothing.
-use Prim.Native.Nat.{ℕ, zero, suc, _+_, _<_}
+use Prim.Native.Nat.{ℕ, zero, suc, _+_, _*_, _≤_, _<_}
 use mathlib.Core.Bool.{Bool, true, false}
 use mathlib.Core.Path.{_≡_, refl, sym, ap, _∙_}
 use mathlib.Core.List.{List, [], _∷_, _++_}
+use native.Mathlib.Nat.{mul-suc}
 use native.Mathlib.Omega.{arith}
 use native.Mathlib.Numerals.{add-one}
 use lib.Dec.{eqb}
+use lib.ListN.{length, length-append}
 use borrow.Author.Tests.{eqb-true, eqb-false}
-use Rattle.metafile.specs.Below.{anyBelow, joinBelow}
+use Rattle.metafile.specs.Below.{anyBelow, joinBelow, sumBelow}
 use Rattle.laws.proofs.First.{test, untrue, or-true, or-left, or-right}
 
 -- ---- a test
@@ -39,6 +44,41 @@ module _ (p : ℕ → Bool) where
   pub any-next : (n : ℕ) → anyBelow n p ≡ false → p n ≡ false → anyBelow (n + 1) p ≡ false
   unfolding anyBelow
   any-next n e q = rw (add-one n, e, q)
+
+-- ---- numbers added up, lists one behind the other
+
+module _ (f : ℕ → ℕ) where
+  pub sum-grows : (k n : ℕ) → k ≤ n → sumBelow k f ≤ sumBelow n f
+  unfolding sumBelow
+  sum-grows k zero h = let none : k ≡ 0 = omega arith in rw none (omega arith)
+  sum-grows k (suc n) h =
+      test (eqb k (suc n))
+      (λ q. rw (eqb-true k (suc n) q) (omega arith))
+      (λ q. omega (arith, sum-grows k n (omega (arith, eqb-false k (suc n) q))))
+
+  pub sum-part : (k n : ℕ) → k < n → sumBelow k f + f k ≤ sumBelow n f
+  unfolding sumBelow
+  sum-part k n h = sum-grows (suc k) n h
+
+  pub sum-most : (b n : ℕ) → ((k : ℕ) → k < n → f k ≤ b) → sumBelow n f ≤ b * n
+  unfolding sumBelow
+  sum-most b zero h = omega arith
+  sum-most b (suc n) h = rw (mul-suc b n) (omega (arith, sum-most b n (λ k less. h k (omega arith)), h n (omega arith)))
+
+pub sum-same : (n : ℕ) (f g : ℕ → ℕ) → ((k : ℕ) → k < n → f k ≡ g k) → sumBelow n f ≡ sumBelow n g
+unfolding sumBelow
+sum-same zero f g e = refl
+sum-same (suc n) f g e = rw (sum-same n f g (λ k h. e k (omega arith)), e n (omega arith))
+
+pub sum-first : (n : ℕ) (f : ℕ → ℕ) → sumBelow (suc n) f ≡ f 0 + sumBelow n (λ (i : ℕ). f (suc i))
+unfolding sumBelow
+sum-first zero f = omega arith
+sum-first (suc n) f = omega (arith, sum-first n f)
+
+pub join-long : {A : Type 0} (n : ℕ) (f : ℕ → List A) → length (joinBelow n f) ≡ sumBelow n (λ (i : ℕ). length (f i))
+unfolding joinBelow sumBelow
+join-long zero f = refl
+join-long (suc n) f = length-append (joinBelow n f) (f n) ∙ ap (λ (l : ℕ). l + length (f n)) (join-long n f)
 
 -- ---- a property of all elements
 

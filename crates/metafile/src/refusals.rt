@@ -59,3 +59,6 @@ pub const NOT_RELATIONS: u8 = 19;
 
 // relations: the heading line is wrong
 pub const HEADING: u8 = 20;
+
+// price: the total has more than 18 digits
+pub const TOTAL: u8 = 21;

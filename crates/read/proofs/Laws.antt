@@ -1,10 +1,13 @@
 -- Laws of the states of the call read, the definition stateAt ("Reading"): what it is in each of its cases, and what is
 -- known where there is a row to write.
---     state-stops state-full state-row   a cursor that stops, no row left, a row to write
+--     state-stops state-full state-row state-written   a cursor that stops, no row left, a row to write
 --     state-over state-under           the file is over the limit, or not
---     mark-end part-long row-whole state-written   the row of a cursor, as the function row is given its chunk
+--     mark-end part-long row-whole row-at   the row of a cursor, as the function row is given its chunk
 --     first-.. next-..                 at first, and after a row is written
 --     Onward onward                    there is a row to write
+--     next-indexed next-none next-some   the rows one by one, by a cursor
+--     next-goes next-stops next-behind   what the next row says of the reading
+--     Known known                      a cursor at a row that is known to be there
 -- Rests on the laws of a cursor in walk. Assumes nothing.
 use Prim.Native.Nat.{ℕ, _+_, _-_, _≤_, _<_}
 use mathlib.Core.Bool.{true, false}
@@ -17,21 +20,23 @@ use lib.ListN.{length, take, drop, length-drop}
 use Rattle.metafile.specs.declared.Row.{Row}
 use Rattle.metafile.specs.Chunk.{rowAt}
 use Rattle.metafile.specs.Reading.{rowsOf}
-use Rattle.metafile.specs.Answers.{limit, overLimit}
-use Rattle.metafile.specs.Append.{rowNo}
+use Rattle.metafile.specs.Answers.{overLimit}
+use Rattle.metafile.specs.Append.{noRow, rowNo}
 use Rattle.laws.proofs.First.{test, untrue}
 use Rattle.laws.proofs.Loops.{part-drop}
 use Rattle.chunk.specs.Layout.{WholeLayout}
+use Rattle.walk.specs.declared.answers.Header.{Header}
 use Rattle.walk.specs.declared.cursor.Cursor.{Cursor}
 use Rattle.walk.specs.Index.{Indexed}
-use Rattle.walk.specs.Cursor.{cursorNone, cursorAt, At}
+use Rattle.walk.specs.Cursor.{Behind, cursorNone, cursorAt, At}
 use Rattle.walk.proofs.Stages.{HeaderIs, header-is, mark-part, mark-inside}
 use Rattle.walk.proofs.Steps.{row-is}
 use Rattle.walk.proofs.Index.{indexed-more}
 use Rattle.walk.proofs.Loops.{given-whole}
-use Rattle.walk.proofs.Cursors.{There, goes-row, goes-there}
+use Rattle.walk.proofs.Cursors.{There, cursor-row as row-cursor, onward-row, stops, there, goes-row, goes-there}
+use Rattle.read.specs.declared.rows.Next.{Next}
 use Rattle.read.specs.declared.states.State.{State}
-use Rattle.read.specs.State.{stopped, going, stateOf, stateAt}
+use Rattle.read.specs.State.{stopped, going, stateOf, stateAt, nextOf}
 use Rattle.laws.proofs.Accepted.{limit-over, limit-under}
 
 -- ---- the state with a cursor
@@ -49,6 +54,11 @@ module _ (file : List ℕ) (room : ℕ) (c : Cursor) where
     pub state-row : c .row < room → stateOf file room c ≡ going file c
     unfolding stateOf
     state-row h = rw (g, lt-ltb (c .row) room h)
+
+    pub state-written : c .row < room → {r : Row} → r ≡ rowNo (rowsOf file) (c .row)
+        → record { go = true; n = c .row; row = r; number = 0; cursor = c } ≡ stateOf file room c
+    unfolding going
+    state-written h e = rw (state-row h, e)
 
 module _ (file : List ℕ) (room n : ℕ) where
   pub state-over : overLimit (length file ∷ []) ≡ true → stateAt file room n ≡ stopped (cursorNone 11) 11
@@ -78,12 +88,6 @@ module _ {file : List ℕ} {c : Cursor} (w : There file c) where
   row-at =
       rw (mark-part file (w .begun) _ (header .mark-is), part-drop file (c .at), w .behind .place-is)
       (sym (row-is file (w .begun) (c .row) (w .turn .row)))
-
-  pub state-written : (room : ℕ) → c .go ≡ true → c .row < room → {r : Row}
-      → r ≡ rowAt (take (65 + c .header .mark - 65) (drop 65 file)) (c .at) (take (length file - c .at) (drop (c .at) file))
-      → record { go = true; n = c .row; row = r; number = 0; cursor = c } ≡ stateOf file room c
-  unfolding going
-  state-written room g h e = let row = e ∙ row-at in rw (state-row file room c g h, row)
 
 -- ---- at first, and after a row is written
 
@@ -144,3 +148,48 @@ module _ (file : List ℕ) (room : ℕ) (s : State) (asked : (s ≡ stateAt file
       let row : c .row ≡ s .n + 1 = omega (arith, w .1, cursor-row) in
       let is : c ≡ cursorAt file (s .n + 1) = w .0 .is ∙ ap (cursorAt file) row in
       (ap (stateOf file room) is ∙ sym (state-under file room (s .n + 1) (next-onward .under)), indexed-more (w .0 .indexed) (omega arith))
+
+-- ---- the rows one by one
+
+module _ {file : List ℕ} {c : Cursor} {index : List ℕ} {n : ℕ} (w : At file c index × (c .row ≡ n)) where
+  pub next-indexed : Indexed file (n + 1) index
+  next-indexed = indexed-more (w .0 .indexed) (omega (arith, w .1))
+
+  pub next-none : c .go ≡ false → {r : Row} → r ≡ noRow → record { go = false; row = r } ≡ nextOf file n
+  unfolding nextOf
+  next-none g e = rw (e, le-ltb n (length (rowsOf file)) (omega (arith, w .1, stops (w .0) g .count)))
+
+  pub next-some : c .go ≡ true → {r : Row} → r ≡ rowNo (rowsOf file) (c .row) → record { go = true; row = r } ≡ nextOf file n
+  unfolding nextOf
+  next-some g e = rw (lt-ltb n (length (rowsOf file)) (omega (arith, w .1, there (w .0) g .turn .row)), e, w .1)
+
+-- a cursor at a row that is known to be there
+pub record Known (file : List ℕ) (n : ℕ) (c : Cursor) : Type 0 where
+  pub is : c ≡ cursorAt file (c .row)
+  pub goes : c .go ≡ true
+  pub row-is : c .row ≡ n
+
+pub known : {file : List ℕ} {h : Header} {n at : ℕ} → Behind file h n at → n < length (rowsOf file) → {c : Cursor} → c ≡ cursorAt file n → Known file n c
+known {file} {h} {n} b less {c} e =
+    let all = e ∙ row-cursor file n (header-is h file (b .header-is) (b .whole) .whole) less in
+    let row : c .row ≡ n = ap (λ (x : Cursor). x .row) all in
+    record { is = e ∙ ap (cursorAt file) (sym row); goes = ap (λ (x : Cursor). x .go) all; row-is = row }
+
+-- the row behind n rows, where there is one
+module _ (file : List ℕ) (n : ℕ) {x : Next} (e : x ≡ nextOf file n) where
+  pub next-goes : x .go ≡ true → (n < length (rowsOf file)) × (x .row ≡ rowNo (rowsOf file) n)
+  unfolding nextOf
+  next-goes g =
+      test (ltb n (length (rowsOf file)))
+      (λ q. (ltb-true _ _ q, rw (e, q)))
+      (λ q. untrue (sym (rw (e, q)) ∙ g))
+
+  pub next-stops : x .go ≡ false → length (rowsOf file) ≤ n
+  unfolding nextOf
+  next-stops g =
+      test (ltb n (length (rowsOf file)))
+      (λ q. untrue (sym g ∙ rw (e, q)))
+      (λ q. ltb-false _ _ q)
+
+  pub next-behind : {h : Header} {at : ℕ} → Behind file h n at → x .go ≡ true → Behind file h (n + 1) (x .row .end)
+  next-behind b g = let w = next-goes g in rw (w .1) (onward-row b (w .0))

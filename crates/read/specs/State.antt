@@ -13,6 +13,7 @@ use Rattle.metafile.specs.Append.{noRow, rowNo}
 use Rattle.metafile.specs.Calls.{ReadOutcome}
 use Rattle.walk.specs.declared.cursor.Cursor.{Cursor}
 use Rattle.walk.specs.Cursor.{cursorNone, cursorAt}
+use Rattle.read.specs.declared.rows.Next.{Next}
 use Rattle.read.specs.declared.states.State.{State}
 
 -- the answer beside the table, as the call leaves it
@@ -39,3 +40,8 @@ stateAt file room n =
 -- the answer of a state with no row to write
 unfoldable pub lastOf : State → ReadAnswer
 lastOf s = record { count = s .n; stop = s .cursor .at; good = s .cursor .header .good; number = s .number }
+
+-- the row behind n rows, where there is one
+unfoldable pub nextOf : List ℕ → ℕ → Next
+nextOf file n =
+    cond (ltb n (length (rowsOf file))) (record { go = true; row = rowNo (rowsOf file) n }) (record { go = false; row = noRow })

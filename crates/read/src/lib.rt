@@ -3,12 +3,17 @@
 // stops and with which number is in a state by value, made by first, next and last in states. Rows past the table's room
 // are looked at for the number alone. The index of the serial numbers met so far is a local array, lent to first and next.
 // It rests on walk for the header, the steps and the index, and on chunk for the row of a chunk.
+//     rows     the rows one by one, without a table
 //     states   the state of the reading with n rows written
 //     local    a reading into a table of 76 rows, by value
 // The contract cites read of the crate metafile (specs/Calls), the states specs/State; the laws are in proofs/Laws and Turns.
 pub mod local;
+mod rows;
 mod states;
 
+pub use rows::Next;
+pub use rows::known_row;
+pub use rows::next_row;
 ghost use mathlib.Core.Path.{_≡_};
 ghost use Rattle.metafile.specs.Calls.{read};
 ghost use Rattle.read.specs.State.{readOutcome};

@@ -7,11 +7,11 @@ ghost use Prim.Native.Nat.{_+_};
 ghost use Rattle.walk.specs.Index.{Indexed};
 ghost use Rattle.walk.specs.Cursor.{cursorAt};
 ghost use Rattle.read.specs.State.{stopped, stateOf, stateAt, lastOf};
+use crate::rows::row;
 use metafile::LIMIT;
 use metafile::ReadAnswer;
 use metafile::Row;
 use metafile::refusals;
-use table::places::MARK;
 use walk::Cursor;
 
 pub struct State {
@@ -49,10 +49,7 @@ fn state_of(file: &[u8], room: usize, cursor: Cursor) -> State
     if room <= cursor.row {
         return halted(cursor, refusals::ROWS_FULL);
     }
-    let at = cursor.at;
-    let end = MARK + cursor.header.mark;
-    let layout = cursor.layout;
-    let row = chunk::row(&file[at..], at, &file[MARK..end], layout);
+    let row = row(file, cursor);
     State {
         go: true,
         n: cursor.row,

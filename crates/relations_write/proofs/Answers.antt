@@ -1,5 +1,4 @@
 -- The answers of write, by its tests ("11 is tested first and 18 .. last").
---     small                          a file that is not over the limit
 --     headed-length                  the buffer with the heading line
 --     refused-11 refused-18 written  a number only and nothing written, or the text
 -- Assumes nothing.
@@ -8,23 +7,15 @@ use mathlib.Core.Bool.{true, false}
 use mathlib.Core.Path.{_≡_, refl, sym, ap, _∙_}
 use mathlib.Core.List.{List, [], _∷_, _++_, append-assoc}
 use native.Mathlib.Omega.{arith}
-use lib.Dec.{ltb}
 use lib.ListN.{length, length-append}
-use borrow.Author.Tests.{lt-ltb, le-ltb, ltb-true, ltb-false}
+use borrow.Author.Tests.{lt-ltb, le-ltb}
 use Rattle.metafile.specs.declared.RelationsWriteAnswer.the-variants.{Written, Refused}
 use Rattle.metafile.specs.Answers.{relationsWriteAnswer, overLimit, outcome, placed}
 use Rattle.metafile.specs.Relations.{divided, lined, heading, relationLines, relationsText, relationsWriteTests, relationsWrite}
-use Rattle.laws.proofs.First.{test, untrue}
 use Rattle.laws.proofs.Loops.{placed-length, placed-placed}
-use Rattle.laws.proofs.Accepted.{refusal-first, refusal-next, tests-end, limit-over}
+use Rattle.laws.proofs.Accepted.{refusal-first, refusal-next, tests-end}
 use Rattle.laws.proofs.Outcomes.{outcome-refused, outcome-done}
 use Rattle.relation_laws.proofs.Written.{text-length}
-
-pub small : (n : ℕ) (ns : List ℕ) → overLimit (n ∷ ns) ≡ false → n ≤ 1073741824
-small n ns e =
-    test (ltb 1073741824 n)
-    (λ q. untrue (sym e ∙ limit-over n ns (ltb-true 1073741824 n q)))
-    (λ q. ltb-false 1073741824 n q)
 
 heading-length : length (heading ++ 10 ∷ []) ≡ 131
 unfolding heading divided

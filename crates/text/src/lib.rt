@@ -1,38 +1,39 @@
-// Text put into a buffer: words and numbers without leading zeros, each with the byte behind it, a space or an LF. Each
-// function puts bytes at a place and answers the place behind them, so that a line is put word by word. A number has at most
-// 20 digits.
+// Text put into a buffer: words and numbers without leading zeros, each with the byte behind it, a space or an LF. A function
+// that puts bytes at a place answers the place behind them, so that a line is put word by word, and asks for the room that
+// they take.
+//     decimal_length   the digits of a number, at most 20
+//     put_decimal      a number
+//     put_word         a word
 // The contracts cite decimal of the crate metafile (specs/Listing) by Put of specs/Put; the laws are in proofs/Puts (bytes
 // put behind bytes) and proofs/Decimals (leading zeros).
 ghost use mathlib.Core.Path.{_≡_};
 ghost use mathlib.Core.List.{[], _∷_, _++_};
 ghost use Prim.Native.Nat.{_+_, _≤_};
-ghost use lib.ListN.{length, drop};
-ghost use Rattle.metafile.specs.Listing.{unpadded, decimal};
+ghost use lib.ListN.{length};
+ghost use Rattle.metafile.specs.Listing.{decimal};
 ghost use Rattle.text.specs.Put.{Put};
 
-// The place of a number's first digit: the first that is not 0, else the last.
-fn first_digit(s: &[u8]) -> usize
-    ensures { λ r. ⌜ (r ≤ length (now (s .entry))) × (drop r (now (s .entry)) ≡ unpadded (now (s .entry))) ⌝ }
+// How many digits a number has without leading zeros.
+pub fn decimal_length(x: usize) -> usize
+    ensures { λ r. ⌜ r ≡ length (decimal x) ⌝ }
 {
-    let mut k: usize = 0;
-    while k + 1 < s.len() {
-        if s[k] != b'0' {
-            return k;
-        }
-        k += 1;
+    let mut n: usize = 1;
+    let mut rest = x;
+    while 10 <= rest {
+        rest = rest / 10;
+        n += 1;
     }
-    k
+    n
 }
 
 // A number without leading zeros, and the byte behind it.
 pub fn put_decimal(buffer: &mut [u8], at: usize, x: usize, behind: u8) -> usize
-    requires { ⌜ at + 21 ≤ length (now buffer) ⌝ }
-    ensures { λ r. ⌜ Put (decimal x ++ behind ∷ []) at (now (buffer .entry)) r (now (buffer .exit)) × (r ≤ at + 21) ⌝ }
+    requires { ⌜ at + length (decimal x) + 1 ≤ length (now buffer) ⌝ }
+    ensures { λ r. ⌜ Put (decimal x ++ behind ∷ []) at (now (buffer .entry)) r (now (buffer .exit)) ⌝ }
 {
-    let mut digits = [0u8; 20];
-    lines::put_number(&mut digits, 0, 20, x as u64);
-    let first = first_digit(&digits);
-    put_word(buffer, at, &digits[first..], behind)
+    let digits_end = lines::put_number(buffer, at, decimal_length(x), x as u64);
+    buffer[digits_end] = behind;
+    digits_end + 1
 }
 
 // A word, and the byte behind it.

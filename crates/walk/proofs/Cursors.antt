@@ -2,20 +2,24 @@
 --     cursor-behind cursor-none first-behind   the cursor made behind n rows, and where the file header isn't whole
 --     There goes-.. there         a cursor that goes stands at a row of the reading: its place, its chunk
 --     Stops cursor-stopped stops   one that stops stands behind the last row, at the reading's stop, with the reading's number
---     onward onto                 where the reading stands behind the row of a cursor, and before the last row that is counted
+--     known-cursor                the cursor at a row that is known to be there
+--     onward-row onward onto      where the reading stands behind the row of a cursor, and before the last row that is counted
 -- Assumes nothing.
 use Prim.Native.Nat.{ℕ, _+_, _-_, _≤_, _<_}
 use mathlib.Core.Bool.{true, false}
 use mathlib.Core.Path.{_≡_, sym, ap, _∙_}
 use mathlib.Core.List.{List}
+use native.Mathlib.Numerals.{add-one}
 use native.Mathlib.Omega.{arith}
 use lib.Dec.{ltb}
 use lib.ListN.{length}
 use borrow.Author.Tests.{lt-ltb, le-ltb, ltb-true, ltb-false}
 use Rattle.metafile.specs.Header.{headerFault}
 use Rattle.metafile.specs.Reading.{halt, withHeader, unbegun, reading, rowsOf}
+use Rattle.metafile.specs.Append.{rowNo}
 use Rattle.laws.proofs.First.{test, untrue, choose-go, choose-stop}
 use Rattle.chunk_laws.proofs.File.{header-cases, good-begun, rows-unbegun, read-unbegun}
+use Rattle.chunk.specs.declared.parts.Layout.{Layout}
 use Rattle.walk.specs.declared.answers.Header.{Header}
 use Rattle.walk.specs.declared.answers.Step.{Step}
 use Rattle.walk.specs.declared.cursor.Cursor.{Cursor}
@@ -23,7 +27,7 @@ use Rattle.walk.specs.Walk.{headerOf, placeAfter, chunkAt, stopWith, ste
 use Rattle.walk.specs.Index.{countOf, lastOf, Indexed}
 use Rattle.walk.specs.Cursor.{Behind, cursorOf, cursorNone, numbered, cursorUnbegun, cursorAt, At}
 use Rattle.walk.proofs.Stages.{header-number, header-is}
-use Rattle.walk.proofs.Steps.{place-none, stop-is}
+use Rattle.walk.proofs.Steps.{row-end, place-none, stop-is}
 use Rattle.walk.proofs.Index.{indexed-more}
 use Rattle.walk.proofs.Loops.{Turn, turn}
 
@@ -53,6 +57,13 @@ pub cursor-behind : {file : List ℕ} {h : Header} {n at : ℕ} → Behind file 
 cursor-behind {file} {h} {n} w is more =
     let e = header-is h file (w .header-is) (w .whole) .whole in
     record { is = rw (w .header-is, w .place-is, is) (sym (cursor-begun file n e)); few = w .few; indexed = more }
+
+-- at a row that is known to be there
+pub known-cursor : {file : List ℕ} {h : Header} {n at : ℕ} → Behind file h n at → n < length (rowsOf file) → {l : Layout} → l ≡ chunkAt file at
+    → cursorOf h n at (record { go = true; number = 0; layout = l }) ≡ cursorAt file n
+known-cursor {file} {h} {n} w less is =
+    let e = header-is h file (w .header-is) (w .whole) .whole in
+    rw (is, w .header-is, w .place-is) (sym (cursor-row file n e less))
 
 pub cursor-none : (file : List ℕ) (h : Header) → h ≡ headerOf file → (h .number ≡ 0 → ⊥) → {c : Cursor} {n : ℕ} → c ≡ cursorNone (h .number)
     → n ≡ unbegun (length file) (h .number) → {index : List ℕ} → Indexed file 0 index → At file (numbered c n) index × (c .row ≡ 0)
@@ -154,6 +165,12 @@ module _ {file : List ℕ} {c : Cursor} {index : List ℕ} (w : At file c index)
 
   pub there : c .go ≡ true → There file c
   there = goes-there file c (c .row) (w .is)
+
+-- behind row n
+pub onward-row : {file : List ℕ} {h : Header} {n at : ℕ} → Behind file h n at → n < length (rowsOf file) → Behind file h (n + 1) (rowNo (rowsOf file) n .end)
+onward-row {file} {h} {n} w less =
+    let e = header-is h file (w .header-is) (w .whole) .whole in
+    record { header-is = w .header-is; whole = w .whole; few = omega arith; place-is = row-end file e n less ∙ ap (placeAfter file) (sym (add-one n)) }
 
 -- behind the row of a cursor
 pub onward : {file : List ℕ} {c : Cursor} → There file c → Behind file (c .header) (c .row + 1) (c .at + c .layout .end)

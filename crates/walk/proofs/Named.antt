@@ -15,7 +15,7 @@ use mathlib.Core.List.{List, [], _∷_}
 use native.Mathlib.Omega.{arith}
 use lib.Dec.{leb, ltb}
 use lib.ListN.{length, drop}
-use borrow.Author.Tests.{lt-ltb, le-ltb, ltb-false, le-leb, lt-leb, leb-true, leb-false}
+use borrow.Author.Tests.{le-leb, lt-leb, leb-true, leb-false}
 use Rattle.metafile.specs.declared.Row.{Row}
 use Rattle.metafile.specs.Header.{isLLC, markOf, headerFault}
 use Rattle.metafile.specs.Chunk.{chunkFault, rowAt}
@@ -24,7 +24,7 @@ use Rattle.metafile.specs.Answers.{Test, refuse, firstRefusal, limit, overLimit
 use Rattle.metafile.specs.Append.{rowNo}
 use Rattle.metafile.specs.Calls.{contentsTests}
 use Rattle.laws.proofs.First.{cases, or-false, choose-go, choose-stop}
-use Rattle.laws.proofs.Accepted.{refusal-none, refusal-first, refusal-next, tests-end, limit-over, limit-under}
+use Rattle.laws.proofs.Accepted.{refusal-none, refusal-first, refusal-next, tests-end, limit-over, limit-under, limit-small}
 use Rattle.chunk_laws.proofs.File.{header-cases, rows-unbegun}
 use Rattle.chunk_laws.proofs.Places.{RowInside, row-inside}
 use Rattle.chunk.specs.declared.parts.Layout.{Layout}
@@ -165,8 +165,7 @@ module _ (file : List ℕ) (k : ℕ) (c : Cursor) (e : c ≡ namedOf file k) whe
   refused z ts = tests-stop _ _ ts (λ q. z (number-is ∙ q)) ∙ sym number-is
 
 pub named-small : {file : List ℕ} {k : ℕ} {c : Cursor} → Named file k c → length file ≤ 1073741824
-unfolding overLimit limit
-named-small {file} w = ltb-false 1073741824 (length file) (or-false (ltb 1073741824 (length file)) false (w .file-small) .0)
+named-small {file} w = limit-small (length file) [] (w .file-small)
 
 -- what is answered for row m, for a later row: the same number, or a place on the way to it
 module _ (file : List ℕ) (m k : ℕ) (l : m ≤ k) (c : Cursor) (e : c ≡ namedOf file m) where

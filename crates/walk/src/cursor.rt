@@ -53,7 +53,7 @@ pub fn none(number: u8) -> Cursor
 }
 
 // Behind n rows, the last of which ends at the place `at`.
-fn behind(
+pub fn behind(
     file: &[u8],
     header: Header,
     n: usize,

@@ -5,7 +5,7 @@ ghost use Prim.Native.Nat.{_<_};
 ghost use lib.ListN.{length};
 ghost use Rattle.metafile.specs.Reading.{rowsOf};
 ghost use Rattle.index.specs.Index.{size};
-ghost use Rattle.walk.specs.Cursor.{Behind, At};
+ghost use Rattle.walk.specs.Cursor.{Behind, cursorAt, At};
 ghost use Rattle.walk.specs.Known.{Ended, RowPlaces};
 use crate::answers::Header;
 use crate::cursor::ALL;
@@ -45,5 +45,22 @@ pub fn row_at(file: &[u8], h: Header, n: usize, at: usize) -> Places
         serial: serial_place(file, h, at, l),
         dependencies: l.dependencies,
         end: at + l.end,
+    }
+}
+
+// The cursor at row n, whose chunk begins at a place of the file.
+pub fn cursor_at(file: &[u8], h: Header, n: usize, at: usize) -> Cursor
+    requires { ⌜ Behind (now file) h n at ⌝ }
+    requires { ⌜ n < length (rowsOf (now file)) ⌝ }
+    ensures { λ r. ⌜ r ≡ cursorAt (now (file .entry)) n ⌝ }
+{
+    let layout = known_chunk(file, h, at);
+    Cursor {
+        go: true,
+        number: 0,
+        row: n,
+        at,
+        layout,
+        header: h,
     }
 }

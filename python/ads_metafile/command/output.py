@@ -123,10 +123,14 @@ def report(error: Refused | Declined | DiskError, name: str) -> int:
 
 
 def put_message(text: str) -> None:
-    """One line on standard error."""
-    line = "".join(character if character.isprintable() else escaped(character) for character in text)
+    """A message of one line on standard error."""
+    put_beside("ads: " + "".join(character if character.isprintable() else escaped(character) for character in text))
+
+
+def put_beside(text: str) -> None:
+    """Lines on standard error, as they are."""
     try:
         if sys.stderr is not None:
-            print("ads: " + line, file=sys.stderr, flush=True)
+            print(text, file=sys.stderr, flush=True)
     except OSError:
         pass

@@ -7,7 +7,7 @@ from collections.abc import Callable
 from typing import Any, NoReturn, TypeAlias
 
 from .. import __version__
-from . import checking, cutting, fields, listing, parts, relations, writing
+from . import checking, cutting, fields, listing, parts, pricing, relations, writing
 from .output import USAGE, Earned, flush, put, put_message
 
 Run: TypeAlias = Callable[[Namespace, Earned], None]
@@ -64,7 +64,7 @@ def make_parser() -> ArgumentParser:
         made.set_defaults(run=run)
         return made
 
-    for adding in (add_reading, add_parts, add_relations, add_writing):
+    for adding in (add_reading, add_parts, add_relations, add_price, add_writing):
         adding(add)
     return parser
 
@@ -127,6 +127,22 @@ def add_relations(add: Callable[..., ArgumentParser]) -> None:
     either.add_argument("--write", "-o", dest="output", metavar="OUT", help=NEW_FILE)
     either.add_argument("--check", metavar="ROW", type=relations.row_or_latest,
                         help="row of a relation chunk, counted from 0, or latest")
+
+
+def add_price(add: Callable[..., ArgumentParser]) -> None:
+    made = add("price", pricing.run, "print the price statement of a file",
+               "Prints for each row of a file's table its number, its contents bytes and its cents, then the total: as "
+               "many cents as --chunk says for each chunk with a good sum, and as many as --kib says for each started "
+               "1,024 contents bytes of it; a chunk with a bad sum costs 0. On standard error it prints the file's "
+               "bytes in three parts: header, chunks and unread, those behind the stop. A file that isn't clean is "
+               "priced up to where its reading stops, a message says so, and the status is 1.",
+               "  ads price survey.ads --chunk 100 --kib 7\n  ads price survey.ads --chunk 100 --kib 7 --json")
+    made.add_argument("file", metavar="FILE", help="metafile")
+    made.add_argument("--chunk", required=True, type=pricing.cents, metavar="CENTS",
+                      help="cents for each chunk with a good sum")
+    made.add_argument("--kib", required=True, type=pricing.cents, metavar="CENTS",
+                      help="cents for each started 1,024 contents bytes of such a chunk")
+    made.add_argument("--json", action="store_true", help="print one JSON object, with the three parts")
 
 
 def add_row(made: ArgumentParser, what: str, **more: Any) -> None:

@@ -229,6 +229,32 @@ impl Run {
         Ok((plain_row, verdicts))
     }
 
+    /// Answers the text, and header, chunk and unread bytes, which add to the file's length.
+    pub fn price(&mut self, file: &[u8], (fee, rate): (u64, u64), room: usize) -> Result<(Vec<u8>, [usize; 3]), u8> {
+        let (mut proved_parts, mut plain_parts) = ([0; 3], [0; 3]);
+        let text = self.written(
+            Call::Price,
+            || format!("price at {fee} and {rate}"),
+            file,
+            room,
+            |buffer| {
+                let answer = ffi::price(file, fee, rate, buffer);
+                proved_parts = [answer.header, answer.chunks, answer.unread];
+                (answer.length, answer.number)
+            },
+            |buffer| {
+                let answer = plain::price(file, fee, rate, buffer)?;
+                plain_parts = [answer.header, answer.chunks, answer.unread];
+                Ok(answer.length)
+            },
+        );
+        self.same(|| "header, chunk and unread bytes".to_string(), proved_parts, plain_parts, file, 0);
+        let text = text?;
+        let whole = proved_parts.iter().sum::<usize>() == file.len();
+        self.demand(whole, &format!("{proved_parts:?} don't add to the file's length"), file, 0);
+        Ok((text, proved_parts))
+    }
+
     pub fn listing(&mut self, input: &[u8], room: usize) -> Result<Vec<u8>, u8> {
         self.written(
             Call::Listing,

@@ -83,6 +83,17 @@ pub struct CountedRow {
     pub number: u8,
 }
 
+/// The length of the text, and the file's bytes in three parts.
+#[repr(C)]
+#[derive(Clone, Copy, Debug, PartialEq, Eq)]
+pub struct Priced {
+    pub length: usize,
+    pub header: usize,
+    pub chunks: usize,
+    pub unread: usize,
+    pub number: u8,
+}
+
 impl From<Written> for (usize, u8) {
     fn from(answer: Written) -> Self {
         (answer.length, answer.number)
@@ -127,7 +138,7 @@ const ENDINGS: [Ending; 3] = [Ending::Counted, Ending::Found, Ending::ByMiniChun
 
 #[rustfmt::skip]
 mod c {
-    use super::{Counted, CountedRow, Description, Ends, ParentAnswer, Part, Reading, Row, Serial, Written};
+    use super::{Counted, CountedRow, Description, Ends, ParentAnswer, Part, Priced, Reading, Row, Serial, Written};
 
     extern "C" {
         pub fn ads_description_new() -> Description;
@@ -160,6 +171,7 @@ mod c {
         pub fn ads_relations_write(file: *const u8, length: usize, buffer: *mut u8, buffer_length: usize) -> Written;
         pub fn ads_relations_check(file: *const u8, length: usize, row: usize, verdicts: *mut u32, room: usize) -> Counted;
         pub fn ads_relations_check_latest(file: *const u8, length: usize, verdicts: *mut u32, room: usize) -> CountedRow;
+        pub fn ads_price(file: *const u8, length: usize, fee: u64, rate: u64, buffer: *mut u8, buffer_length: usize) -> Priced;
         pub fn ads_listing(input: *const u8, length: usize, buffer: *mut u8, buffer_length: usize) -> Written;
     }
 }
@@ -335,6 +347,19 @@ pub fn relations_check_latest(file: &[u8], verdicts: &mut [u32]) -> CountedRow {
     })
 }
 
+/// ADS_PRICE_ROOM
+pub const fn price_room(rows: usize) -> usize {
+    38 * rows + 25
+}
+
+pub fn price(file: &[u8], fee: u64, rate: u64, buffer: &mut [u8]) -> Priced {
+    lent(file, |file| {
+        lent_mut(buffer, |buffer| unsafe {
+            c::ads_price(file.as_ptr(), file.len(), fee, rate, buffer.as_mut_ptr(), buffer.len())
+        })
+    })
+}
+
 pub fn listing(input: &[u8], buffer: &mut [u8]) -> Written {
     lent(input, |input| {
         lent_mut(buffer, |buffer| unsafe {
@@ -346,7 +371,7 @@ pub fn listing(input: &[u8], buffer: &mut [u8]) -> Written {
 /// Calls in which a length is claimed that is over 2^30, or over the buffer's, beside a pointer to few bytes.
 #[rustfmt::skip]
 pub mod claimed {
-    use super::{c, Counted, CountedRow, Description, Ends, ParentAnswer, Part, Reading, Table, Written};
+    use super::{c, Counted, CountedRow, Description, Ends, ParentAnswer, Part, Priced, Reading, Table, Written};
 
     const FEW: [u8; 8] = [0; 8];
 
@@ -410,6 +435,12 @@ pub mod claimed {
     pub fn relations_check_latest(length: usize, verdicts: &mut [u32; 2]) -> CountedRow {
         assert!(length > 1 << 30);
         unsafe { c::ads_relations_check_latest(few(length).0, length, verdicts.as_mut_ptr(), verdicts.len()) }
+    }
+
+    pub fn price(file: usize, buffer: (&mut [u8; 8], usize)) -> Priced {
+        assert!([file, buffer.1].iter().any(|&length| length > 1 << 30));
+        let file = few(file);
+        unsafe { c::ads_price(file.0, file.1, 1, 1, buffer.0.as_mut_ptr(), buffer.1) }
     }
 
     pub fn listing(input: usize, buffer: (&mut [u8; 8], usize)) -> Written {

@@ -13,11 +13,12 @@ pub enum Call {
     RelationsWrite,
     RelationsCheck,
     RelationsLatest,
+    Price,
     Listing,
 }
 
 /// Each call and the numbers that it can give.
-const CALLS: [(&str, &[u8]); 10] = [
+const CALLS: [(&str, &[u8]); 11] = [
     ("begin", &[0, 2, 3, 6, 11, 15, 18]),
     ("read", &[0, 1, 2, 3, 4, 5, 6, 7, 8, 9, 10, 11]),
     ("parent", &[0, 11, 13, 14]),
@@ -27,12 +28,13 @@ const CALLS: [(&str, &[u8]); 10] = [
     ("rel. write", &[0, 11, 18]),
     ("rel. check", &[0, 11, 13, 18, 19, 20]),
     ("rel. latest", &[0, 11, 13, 18, 20]),
+    ("price", &[0, 11, 18, 21]),
     ("listing", &[0, 11, 18]),
 ];
 
 #[derive(Default)]
 pub struct Tally {
-    times: [[u64; 21]; 10],
+    times: [[u64; 22]; 11],
     endings: [u64; 3],
     verdicts: [u64; 3],
     spaced: u64,
@@ -66,7 +68,7 @@ impl Tally {
             print!("{name:>12}");
         }
         println!("{:>10}", "all");
-        for number in 0..21 {
+        for number in 0..22 {
             print!("{number:>10}");
             for times in &self.times {
                 print!("{:>12}", times[number]);
@@ -85,7 +87,7 @@ impl Tally {
         println!("rows with spaces in front of the serial number's check: {}", self.spaced);
     }
 
-    /// Each number that a call can give arose, and no other; with 1 to 20 each one arose somewhere. So did each ending and
+    /// Each number that a call can give arose, and no other; with 1 to 21 each one arose somewhere. So did each ending and
     /// each verdict.
     pub fn check(&self) {
         for ((name, can), times) in CALLS.iter().zip(&self.times) {
@@ -94,7 +96,7 @@ impl Tally {
                 assert_eq!(times > 0, can, "{name} gave number {number} {times} times");
             }
         }
-        for number in 1..=20 {
+        for number in 1..=21 {
             assert!(self.times.iter().any(|times| times[number] > 0), "no call gave number {number}");
         }
         assert!(self.endings.iter().all(|&rows| rows > 0), "an ending is missing: {:?}", self.endings);

@@ -7,12 +7,13 @@ use std::time::Instant;
 
 use compare::both::Run;
 use compare::parts::{
-    appends, begins, cuts, damaged, latest, limits, listings, marks, pairs, relation_lines, relations, rich, valid,
+    appends, begins, cuts, damaged, latest, limits, listings, marks, pairs, prices, relation_lines, relations, rich,
+    valid,
 };
 
 type Part = (&'static str, fn(&mut Run));
 
-const PARTS: [Part; 13] = [
+const PARTS: [Part; 14] = [
     ("valid files", |run| valid::run(run, 1500)),
     ("a rich file", rich::run),
     ("two faults", pairs::run),
@@ -24,6 +25,7 @@ const PARTS: [Part; 13] = [
     ("relations", |run| relations::run(run, 1500)),
     ("relation lines", relation_lines::run),
     ("the latest relations", |run| latest::run(run, 1500)),
+    ("prices", |run| prices::run(run, 1500)),
     ("listings", listings::run),
     ("limits", limits::run),
 ];

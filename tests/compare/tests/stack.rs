@@ -60,6 +60,14 @@ fn append() {
     });
 }
 
+#[test]
+fn price() {
+    let case = case(2_000);
+    let mut text = vec![0; ffi::price_room(case.last + 1)];
+    in_small_thread(|| assert_eq!(ffi::price(&case.bytes, 100, 7, &mut text).number, 0));
+    assert!(text.starts_with(b"0 0 100\n1 0 100\n"));
+}
+
 /// The listing takes 65,536 bytes at most.
 #[test]
 fn listing() {

@@ -55,6 +55,8 @@ fn no_bytes() {
     assert_eq!(Run::new(0).relations_check_latest(&[], 0), Err(13));
     assert_eq!(Run::new(0).relations_write(&[], HEADING_BYTES).map(|text| text.len()), Ok(HEADING_BYTES));
     assert_eq!(Run::new(0).relations_write(&[], HEADING_BYTES - 1), Err(18));
+    assert_eq!(Run::new(0).price(&[], (u64::MAX, u64::MAX), 8), Ok((b"total 0\n".to_vec(), [0; 3])));
+    assert_eq!(Run::new(0).price(&[], (u64::MAX, u64::MAX), 7), Err(18));
 }
 
 /// An append that is accepted is refused with 12 where no bytes are claimed for the file, whatever stands in the buffer and

@@ -13,6 +13,7 @@
 //! | `begin`, `append` | the calls that write a file |
 //! | `parent`, `part` | `parent`; `contents` and `gather` |
 //! | `relations` | the contents of a relation chunk, written and checked |
+//! | `price` | the price statement |
 //! | `listing` | the text of the listing |
 #![forbid(unsafe_code)]
 
@@ -28,6 +29,7 @@ mod multi;
 pub mod number;
 mod parent;
 mod part;
+mod price;
 mod reading;
 mod relations;
 mod writer;
@@ -40,6 +42,7 @@ pub use field::Serial;
 pub use listing::listing;
 pub use parent::{parent, Parent};
 pub use part::{contents, gather};
+pub use price::{price, Statement};
 pub use reading::{read, Reading, Row};
 pub use relations::{relations_check, relations_check_latest, relations_write, DECLARED, MALFORMED, UNDECLARED};
 

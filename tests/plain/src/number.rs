@@ -40,6 +40,8 @@ pub const ROOM: u8 = 18;
 pub const RELATIONS: u8 = 19;
 /// "a wrong heading line 20"
 pub const HEADING: u8 = 20;
+/// "A total above 18 digits is refused with 21"
+pub const TOTAL: u8 = 21;
 
 /// "a lent byte buffer over 2^30"
 pub fn over_limit(lengths: &[usize]) -> bool {

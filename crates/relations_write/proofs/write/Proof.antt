@@ -8,8 +8,9 @@ use lib.ListN.{length}
 use borrow.Author.Needs.{needs}
 use Rattle.metafile.specs.Answers.{overLimit}
 use Rattle.metafile.specs.Relations.{relationLines}
+use Rattle.laws.proofs.Accepted.{limit-small}
 use Rattle.walk.proofs.Index.{indexed-none}
-use Rattle.relations_write.proofs.Answers.{small, headed-length, refused-11, refused-18, written}
+use Rattle.relations_write.proofs.Answers.{headed-length, refused-11, refused-18, written}
 use Rattle.relations_write.proofs.write.Statement.{statement}
 use Rattle.relations_write.proofs.write.Tie as tie
 
@@ -42,7 +43,7 @@ enter-rows-requires : tie.Need-enter-rows-requires
 enter-rows-requires c κs =
     let l = ended c in
     let w = l .last .ensures .0 in
-    (w .count, (w .begun, (small _ _ (within (begun l)), c .before .before .clear .ensures)))
+    (w .count, (w .begun, (limit-small _ _ (within (begun l)), c .before .before .clear .ensures)))
 
 count-requires : tie.Need-count-requires
 count-requires c κs = c .before .before .enter-rows .ensures
@@ -59,10 +60,10 @@ long : (c : tie.After-count)
 long c = omega (arith, c .count .ensures .0)
 
 mul-long : tie.Need-mul-long
-mul-long c = omega (arith, c .count .ensures .1, small _ _ (within (passed c)))
+mul-long c = omega (arith, c .count .ensures .1, limit-small _ _ (within (passed c)))
 
 add-long : tie.Need-add-long
-add-long c = omega (arith, c .count .ensures .1, small _ _ (within (passed c)))
+add-long c = omega (arith, c .count .ensures .1, limit-small _ _ (within (passed c)))
 
 returns-2 : tie.Need-returns-2
 returns-2 c = let n = c .before in refused-18 _ _ (within (passed n)) _ (long n) (c .if2 .taken)

@@ -1,62 +1,42 @@
 -- `text::put_decimal` meets its contract. Assumes nothing.
+use Prim.Native.Nat.{ℕ}
+use mathlib.Core.Path.{sym, ap, _∙_}
+use mathlib.Core.List.{List}
 use native.Mathlib.Omega.{arith}
-use lib.ListN.{length-take}
-use Rattle.text.proofs.Puts.{put-is}
-use Rattle.text.proofs.Decimals.{number-few, number-is}
 use borrow.Author.Needs.{needs}
+use Rattle.metafile.specs.Fields.{digitsOf}
+use Rattle.metafile.specs.Listing.{decimal}
+use Rattle.metafile.specs.Answers.{placed}
+use Rattle.text.proofs.Puts.{put-word}
+use Rattle.text.proofs.Decimals.{decimal-digits}
 use Rattle.text.proofs.put_decimal.Statement.{statement}
 use Rattle.text.proofs.put_decimal.Tie as tie
 
-slice-aggregate-put-number : tie.Need-slice-aggregate-put-number
-slice-aggregate-put-number c = search needs
+decimal-length-requires : tie.Need-decimal-length-requires
+decimal-length-requires c κs = search needs
 
 put-number-requires : tie.Need-put-number-requires
 put-number-requires c κs = search needs
 
-slice-aggregate-first-digit : tie.Need-slice-aggregate-first-digit
-slice-aggregate-first-digit c = search needs
+slice-write-buffer : tie.Need-slice-write-buffer
+slice-write-buffer c = search needs
 
-first-digit-requires : tie.Need-first-digit-requires
-first-digit-requires c κs = search needs
-
-sub-put-word : tie.Need-sub-put-word
-sub-put-word c = search needs
-
-part-put-word-start : tie.Need-part-put-word-start
-part-put-word-start c = search needs
-
-part-put-word-end : tie.Need-part-put-word-end
-part-put-word-end c = search needs
-
-put-word-requires : tie.Need-put-word-requires
-put-word-requires c κs = search needs
+add-result : tie.Need-add-result
+add-result c = search needs
 
 same-length : tie.Need-same-length
 same-length c = search needs
 
 returns : tie.Need-returns
 returns c =
-    let put₂ = c .before .before in
-    let first = put₂ .before .before .before .before in
-    let put = first .before .before .before in
-    let start = put .before .before .before in
-    let t = put .put-number .last .0 in
-    let k = first .first-digit .result in (
-      put-is (number-is (start .args .x) t _ k (search needs) (put .put-number .ensures .1) (first .first-digit .ensures .1) (start .args .behind)) (put₂ .put-word .ensures .0),
-      omega (arith, number-few (start .args .x) t _ k (search needs) (put .put-number .ensures .1) (first .first-digit .ensures .1), put₂ .put-word .ensures .1),
-    )
+    let put = c .before .before in
+    let long = put .before in
+    let args = long .before .before .before .args in
+    let same = ap (λ (n : ℕ). digitsOf n (args .x)) (long .decimal-length .ensures) ∙ sym (decimal-digits (args .x)) in
+    put-word (decimal (args .x)) (args .buffer .now) (put .put-number .last .0) (args .at) (put .put-number .result) (args .behind)
+    (long .before .before .before .pre) (omega (arith, put .put-number .ensures .0, long .decimal-length .ensures))
+    (put .put-number .ensures .1 ∙ ap (λ (v : List ℕ). placed (args .at) v (args .buffer .now)) same)
 
 pub put-decimal-spec : {M : Type 1} → statement M
 put-decimal-spec =
-    tie.close
-    (tie.spec
-    slice-aggregate-put-number
-    put-number-requires
-    slice-aggregate-first-digit
-    first-digit-requires
-    sub-put-word
-    part-put-word-start
-    part-put-word-end
-    put-word-requires
-    same-length
-    returns)
+    tie.close (tie.spec decimal-length-requires put-number-requires slice-write-buffer add-result same-length returns)

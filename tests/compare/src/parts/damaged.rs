@@ -41,7 +41,7 @@ pub fn damages(run: &mut Run, file: &File, cases: Range<u64>) {
 }
 
 /// Up to three damages, all in the same few fields now and then, from the last to the first.
-fn damaged(run: &mut Run, random: &mut Random, file: &File) -> Vec<u8> {
+pub fn damaged(run: &mut Run, random: &mut Random, file: &File) -> Vec<u8> {
     let header = file.spans.iter().filter(|span| span.end <= file.header_end).count();
     let near = if random.one_in(8) { random.below(header) } else { random.below(file.spans.len()) };
     let few = random.one_in(2);

@@ -6,6 +6,7 @@ use plain::{Parent, Serial};
 use crate::both::{Appended, Run};
 use crate::build::{Contents, File, Type};
 use crate::describe::Step;
+use crate::ffi::price_room;
 use crate::generate::{otherwise, with_check};
 use crate::parts::appends;
 use crate::random::Random;
@@ -80,6 +81,7 @@ pub fn run(run: &mut Run, case: &Case) {
     assert_eq!(run.gather(&case.bytes, case.multi, b"P1", 8), Ok(b"onethree".to_vec()));
     assert_eq!(run.gather(&case.bytes, case.empty, b"P1", 8), Err(14));
     relations(run, case);
+    price(run, case);
     for serial in case.known {
         assert_eq!(append(run, case, serial), Err(9));
     }
@@ -110,6 +112,15 @@ fn relations(run: &mut Run, case: &Case) {
     let declared = vec![1; Case::LINES];
     assert_eq!(run.relations_check(&file, case.last + 1, Case::LINES), Ok(declared.clone()));
     assert_eq!(run.relations_check_latest(&file, Case::LINES), Ok((case.last + 1, declared)));
+}
+
+/// Of the MultiChunk two units are started, of the last chunk one, and of the empty ones none.
+fn price(run: &mut Run, case: &Case) {
+    let total = 100 * (case.last + 1) + 7 * (2 + 1);
+    let (text, parts) = run.price(&case.bytes, (100, 7), price_room(case.last + 1)).expect("there is room");
+    let end = format!("\n{} 1208 114\n{} 12 107\ntotal {total}\n", case.multi, case.last);
+    assert!(text.starts_with(b"0 0 100\n1 0 100\n") && text.ends_with(end.as_bytes()));
+    assert_eq!(parts, [319, case.bytes.len() - 319, 0]);
 }
 
 /// Whether the file grows.

@@ -37,6 +37,8 @@ fn real(run: &mut Run) {
     let _ = run.relations_check(&long[1..], 0, 2);
     let _ = run.relations_check_latest(&long, 2);
     let _ = run.relations_check_latest(&long[1..], 2);
+    let _ = run.price(&long, (1, 1), 200);
+    let _ = run.price(&long[1..], (1, 1), 200);
     let _ = run.listing(&long, 100);
 
     let serial = [b' '; 38];
@@ -70,6 +72,9 @@ fn real(run: &mut Run) {
         both(run, Call::Listing, answers, number);
         let answers = [ffi::relations_write(b"", buffer).number, plain(plain::relations_write(b"", buffer))];
         both(run, Call::RelationsWrite, answers, number);
+        let answers =
+            [ffi::price(b"", 1, 1, buffer).number, plain(plain::price(b"", 1, 1, buffer).map(|priced| priced.length))];
+        both(run, Call::Price, answers, number);
         buffer[..200].fill(0);
         let number = if length > LIMIT { 11 } else { 12 };
         let (proved, plain) = (ffi::Description::new(), plain::Description::new());
@@ -130,6 +135,8 @@ fn claims(run: &mut Run) {
         one(run, Call::Gather, claimed::gather(8, 1, (&mut buffer, length)).number);
         one(run, Call::RelationsWrite, claimed::relations_write(length, (&mut buffer, 8)).number);
         one(run, Call::RelationsWrite, claimed::relations_write(8, (&mut buffer, length)).number);
+        one(run, Call::Price, claimed::price(length, (&mut buffer, 8)).number);
+        one(run, Call::Price, claimed::price(8, (&mut buffer, length)).number);
         one(run, Call::Listing, claimed::listing(8, (&mut buffer, length)).number);
 
         let mut verdicts = [7; 2];

@@ -10,6 +10,7 @@ pub mod limits;
 pub mod listings;
 pub mod marks;
 pub mod pairs;
+pub mod prices;
 pub mod relation_lines;
 pub mod relations;
 pub mod rich;
@@ -40,5 +41,6 @@ pub fn look(run: &mut Run, random: &mut Random, file: &[u8], count: usize) {
         let _ = run.relations_write(file, 50 * room);
         let _ = run.relations_check(file, row, room);
         let _ = run.relations_check_latest(file, room);
+        let _ = run.price(file, (random.next(), random.next() >> 40), room);
     }
 }

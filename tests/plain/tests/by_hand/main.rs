@@ -1,8 +1,9 @@
-//! Cases worked out by hand from the specification, and each number 1 to 20.
+//! Cases worked out by hand from the specification, and each number 1 to 21.
 
 mod calls;
 mod fields;
 mod padded;
+mod price;
 mod reading;
 mod relations;
 
@@ -37,6 +38,11 @@ pub fn header(strategy: &str, mark: &[u8]) -> Vec<u8> {
     let length = mark.len();
     let title = format!("Format_ID=Ancillary Data Standard 1.00\nSeparator_Strategy={strategy}{length:03}\n");
     closed(title.into_bytes(), mark, &serial(7))
+}
+
+/// A file of these chunks.
+pub fn file(chunks: &[Vec<u8>]) -> Vec<u8> {
+    [header("LLC", b""), chunks.concat()].concat()
 }
 
 pub fn times() -> String {

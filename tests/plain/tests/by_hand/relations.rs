@@ -6,7 +6,7 @@ use plain::{append, relations_check, relations_check_latest, relations_write, Se
 
 use crate::calls::{description, lent};
 use crate::padded::other;
-use crate::{chunk_header, closed, header, serial, with};
+use crate::{chunk_header, closed, file, header, serial, with};
 
 const TEST: &str = "ADS\\DATA\\TEST";
 const EDIT: &str = "ADS\\DATA\\EDIT";
@@ -22,10 +22,6 @@ fn depending(random: u32, sub_format: &str, parents: &[(Serial, &str)], data: &[
     bytes.extend(format!("Chunk_Content_Length={:012}\n", data.len() + 1).bytes());
     bytes.extend(data);
     closed(bytes, b"", &serial(random))
-}
-
-fn file(chunks: &[Vec<u8>]) -> Vec<u8> {
-    [header("LLC", b""), chunks.concat()].concat()
 }
 
 /// Row 0 without parents; row 1 depends on it, on a missing one and on a later one, with another name; row 2 on row 0.

@@ -1,21 +1,12 @@
 -- `walk::known::row_at` meets its contract. Assumes nothing.
-use mathlib.Core.Path.{_≡_}
 use native.Mathlib.Omega.{arith}
-use Rattle.metafile.specs.Header.{headerFault}
-use Rattle.walk.proofs.Stages.{header-is}
-use Rattle.walk.proofs.Loops.{Turn, place-inside, place-whole}
-use Rattle.walk.proofs.Places.{turned, row-places}
+use Rattle.walk.proofs.Loops.{Turn}
+use Rattle.walk.proofs.Places.{chunk-asked, turned, row-places}
 use Rattle.walk.proofs.known.row_at.Statement.{statement}
 use Rattle.walk.proofs.known.row_at.Tie as tie
 
-begun : (k : tie.Start) → headerFault (k .args .file .now) ≡ 0
-begun k = let b = k .pre .0 in header-is (k .args .h) (k .args .file .now) (b .header-is) (b .whole) .whole
-
 known-chunk-requires : tie.Need-known-chunk-requires
-known-chunk-requires c κs =
-    let k = c .before in
-    let b = k .pre .0 in
-    (b .header-is, (b .whole, (place-inside (k .args .file .now) (begun k) _ _ (b .few) (b .place-is), place-whole (k .args .file .now) (begun k) _ _ (k .pre .1) (b .place-is))))
+known-chunk-requires c κs = let k = c .before in chunk-asked (k .args .file .now) _ _ _ (k .pre .0) (k .pre .1)
 
 next : (c : tie.After-known-chunk) → Turn (c .before .before .args .file .now) (c .before .before .args .n) (c .before .before .args .at) (c .known-chunk .result)
 next c = let k = c .before .before in turned _ _ _ _ (k .pre .0) (k .pre .1) (c .known-chunk .result) (c .known-chunk .ensures)
