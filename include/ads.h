@@ -23,8 +23,8 @@ extern "C" {
 #endif
 
 /* The version of this header and of its library; the number is major * 1000000 + minor * 1000 + patch. */
-#define ADS_VERSION "0.8.0"
-#define ADS_VERSION_NUMBER 8000
+#define ADS_VERSION "0.9.0"
+#define ADS_VERSION_NUMBER 9000
 
 /* ---- sizes */
 
@@ -36,6 +36,7 @@ extern "C" {
 #define ADS_MOST_PARENTS 16       /* parents that one append takes */
 #define ADS_STACK_BYTES (1 << 20) /* stack that a call may take */
 #define ADS_LISTING_ROOM 10240    /* bytes that are enough for any listing */
+#define ADS_ANCESTORS_ROOM 63     /* entries that are enough for the ancestors of any row */
 
 /* Rows that are enough for any file of this length: a chunk has at least 856 bytes. */
 #define ADS_MOST_ROWS(length) ((length) / 856 + 1)
@@ -81,18 +82,20 @@ enum {
     ADS_ROWS_FULL = 10,     /* read: another whole chunk with a new serial number, and no row left */
     ADS_LIMIT = 11,         /* every call: a lent byte buffer over 2^30, or append's length over the buffer's */
     ADS_NOT_CLEAN = 12,     /* append: the file has no bytes, or doesn't read to its end with number 0 */
-    ADS_NO_ROW = 13,        /* parent, contents, gather, relations_check: no such row; relations_check_latest: no row is
-                               a relation chunk; append: no such parent, repeated, or over 16 */
+    ADS_NO_ROW = 13,        /* parent, ancestors, contents, gather, relations_check: no such row; relations_check_latest:
+                               no row is a relation chunk; append: no such parent, repeated, or over 16 */
     ADS_NO_DEPENDENCY = 14, /* parent: no such dependency; gather: not a MultiChunk, or the ID is undeclared */
     ADS_MARK_ZERO = 15,     /* begin, append: the mark has a zero byte */
     ADS_OPEN = 16,          /* append: open under LLC or for BIN, or the mark is first found before the data's end */
     ADS_MULTICHUNK = 17,    /* append: of a MultiChunk */
     ADS_NO_ROOM = 18,       /* begin, append, gather, relations_write, price, listing: the lent buffer is too short for
-                               the result; relations_check, relations_check_latest: the list is */
+                               the result; ancestors, relations_check, relations_check_latest: the list is */
     ADS_NOT_RELATIONS = 19, /* relations_check: the row's sub-format isn't ADS\SYS\Relations */
     ADS_HEADING = 20,       /* relations_check, relations_check_latest: the first line of the contents isn't the
                                heading */
-    ADS_TOTAL = 21          /* price: the total is 10^18 cents or more */
+    ADS_TOTAL = 21,         /* price: the total is 10^18 cents or more */
+    ADS_CIRCLE = 23,        /* ancestors: a chain of dependencies from the row comes back to a row on it */
+    ADS_ROWS_OVER_64 = 24   /* ancestors: the reading has more than 64 rows */
 };
 
 /* A number in words, for a message. */
@@ -121,6 +124,8 @@ static inline const char *ads_words(int number)
     case ADS_NOT_RELATIONS: return "the row isn't a relation chunk";
     case ADS_HEADING: return "the heading line of the relation chunk differs";
     case ADS_TOTAL: return "the total has more than 18 digits";
+    case ADS_CIRCLE: return "a chain of dependencies comes back to a row on it";
+    case ADS_ROWS_OVER_64: return "more than 64 rows in the reading";
     default: return "no such number";
     }
 }
@@ -199,6 +204,12 @@ typedef struct ads_part {
     uint8_t number;      /* 16 */
 } ads_part;              /* 24 bytes */
 
+typedef struct ads_ancestry {
+    size_t count;   /*  0: rows listed */
+    size_t missing; /*  8: dependencies, of the row and of those listed, that name no row */
+    uint8_t number; /* 16 */
+} ads_ancestry;     /* 24 bytes */
+
 /* header, chunks and unread add to the file's length. */
 typedef struct ads_priced {
     size_t length;  /*  0: bytes of the statement, at the start of the buffer */
@@ -230,6 +241,14 @@ bool ads_is_clean(ads_reading reading, size_t length);
 
 /* The parent that a row's dependency names. Tests 11, 13, 14. */
 ads_parent_answer ads_parent(const uint8_t *file, size_t length, size_t row, size_t dependency);
+
+/* Writes every row that is reached from `row` by dependencies, in one or more steps, each once, in rising order and
+   without `row` itself, into a list of `room` entries; ADS_ANCESTORS_ROOM are always enough. A dependency leads to the
+   row that ads_parent finds, whatever its sub-format. It also answers how many dependencies of `row` and of the listed
+   rows name no row; a serial number that two of them name counts twice. Entries past the count keep their state. Tests
+   11 (of the file alone), 13, 24 (however many rows are reached), 23 (from `row` on a circle is reached, also one of a
+   single row, and one that `row` isn't on), 18. */
+ads_ancestry ads_ancestors(const uint8_t *file, size_t length, size_t row, size_t *rows, size_t room);
 
 /* The part of the file that the row names, which the row's own `contents` and `bytes` name too. Tests 11, 13. */
 ads_part ads_contents(const uint8_t *file, size_t length, size_t row);

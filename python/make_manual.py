@@ -13,7 +13,7 @@ from pathlib import Path
 sys.path.insert(0, str(Path(__file__).resolve().parent))
 
 from ads_metafile import WORDS, __version__  # noqa: E402
-from ads_metafile.command import checking, listing, parts, pricing  # noqa: E402
+from ads_metafile.command import ancestors, checking, listing, parts, pricing  # noqa: E402
 from ads_metafile.command.parser import DESCRIPTION, make_parser  # noqa: E402
 
 SYNOPSIS = ("ads SUBCOMMAND [OPTION ..] FILE ..", "ads [SUBCOMMAND] --help", "ads --version")
@@ -112,7 +112,9 @@ def manual() -> str:
     lines += [*section("LOCKS", LOCKS), *section("POWER FAILURES", POWER), *section("JSON", JSON)]
     lines += tagged([("list", ", ".join((*listing.ABOUT, "rows"))), ("each of rows", ", ".join(listing.COLUMNS)),
                      ("check", ", ".join(checking.JSON_NAMES)), ("parents", "file, dependencies"),
-                     ("each of dependencies", ", ".join(parts.JSON_NAMES)), ("price", ", ".join(pricing.JSON_NAMES)),
+                     ("each of dependencies", ", ".join(parts.JSON_NAMES)),
+                     ("ancestors", ", ".join(ancestors.JSON_NAMES)),
+                     ("each of its rows", ", ".join(ancestors.ROW_NAMES)), ("price", ", ".join(pricing.JSON_NAMES)),
                      ("each of its rows", ", ".join(pricing.ROW_NAMES))])
     lines += [".SH FILES", *tagged(FILES), ".SH ENVIRONMENT", *tagged(ENVIRONMENT)]
     return "\n".join(lines) + "\n"

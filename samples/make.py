@@ -113,6 +113,27 @@ def relations_dated() -> bytes:
     return child_and_parent() + b"".join(relation_chunk(*chunk) for chunk in chunks)
 
 
+def family(*chunks: tuple[str, tuple[int, ...]]) -> bytes:
+    """A chunk for each sub-format, with the chunks of these numbers as its parents; -1 is one that isn't there."""
+    known = [Dependency(serial("%05d" % (50 + row)), "ADS\\DATA\\" + name) for row, (name, _) in enumerate(chunks)]
+    known.append(Dependency(ELSEWHERE, GRID))
+    return header("LLC", b"") + b"".join(
+        plain(b"", known[row].serial, name.encode("ascii"),
+              head(known[row].sub_format, parents=[known[each] for each in parents]))
+        for row, (name, parents) in enumerate(chunks))
+
+
+def ancestors() -> bytes:
+    """A chain, a diamond, a chunk beside them, and a missing parent that two name."""
+    return family(("SHOTS", ()), ("LOG", ()), ("TRACES", (0,)), ("EDIT", (2,)), ("FILTER", (2, -1)),
+                  ("STACK", (3, 4, -1)))
+
+
+def circle() -> bytes:
+    """Two chunks that depend on each other, one that depends on them, and one that doesn't."""
+    return family(("SHOTS", ()), ("EDIT", (2,)), ("FILTER", (1, 0)), ("STACK", (1,)))
+
+
 def stray_byte() -> bytes:
     """What a price statement tells apart: contents of 0, 1, 1,024 and 1,025 bytes, a bad sum, a MultiChunk; and one
     byte behind them."""
@@ -135,6 +156,8 @@ def good() -> dict[str, bytes]:
         "padded": padded(),
         "relations": relations(),
         "relations-dated": relations_dated(),
+        "ancestors": ancestors(),
+        "circle": circle(),
         "begun": header("LLC", b""),
         "bad-chunk-sum": header("LLC", b"") + plain(b"", FIRST, b"abc", off=1),
         "bad-header-sum": header("LLC", b"", off=1) + plain(b"", FIRST, b"abc"),

@@ -50,11 +50,18 @@ fn with_counted(mut file: File, chunks: usize, bytes: usize, parents: &[usize]) 
 
 /// So many open chunks of so many bytes, with a mark of 90 bytes.
 pub fn open(chunks: usize, bytes: usize) -> File {
+    open_depending(chunks, bytes, |_| Vec::new())
+}
+
+/// The same, each with the dependencies that are given for its number.
+pub fn open_depending(chunks: usize, bytes: usize, parents: impl Fn(usize) -> Vec<Serial>) -> File {
     let mut random = Random::new(1, "open", 0);
     let mark = random.text(90);
     let mut file = header(true, &mark);
     for number in 0..chunks {
-        file.push(&chunk(serial(number), Contents::Open(random.bytes(bytes))));
+        let mut chunk = chunk(serial(number), Contents::Open(random.bytes(bytes)));
+        chunk.dependencies = parents(number).into_iter().map(|serial| (serial, chunk.sub_format.clone())).collect();
+        file.push(&chunk);
     }
     file
 }

@@ -4,6 +4,7 @@
 //! slow for a while is slow for all or for none. Tables of rows are allocated and touched before. A goal that isn't reached
 //! is marked. Parts can be asked for by name: `cargo run --release --offline -- i iv`.
 
+mod ancestors;
 mod calls;
 mod files;
 mod many;
@@ -58,10 +59,11 @@ struct Report {
 type Part = (&'static str, fn(&mut Vec<f64>) -> Report);
 
 #[rustfmt::skip]
-const PARTS: [Part; 14] = [
+const PARTS: [Part; 15] = [
     ("sums", both_sums), ("i", large), ("ii", small), ("iii", open), ("iv", mini_chunks), ("v", growth),
     ("vii", small_open), ("viii", hostile_marks), ("ix", many::growth), ("x", many::hostile),
-    ("xi", relations::relations), ("xii", relations::latest), ("xiii", prices::prices), ("append", long_append),
+    ("xi", relations::relations), ("xii", relations::latest), ("xiii", prices::prices), ("xiv", ancestors::ancestors),
+    ("append", long_append),
 ];
 
 type Sum = fn(&[u8]) -> u8;

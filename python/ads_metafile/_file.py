@@ -8,7 +8,8 @@ from mmap import mmap
 from types import TracebackType
 from typing import Any, Iterator, NamedTuple, overload
 
-from . import _pricing, _relations, _rows
+from . import _ancestors, _pricing, _relations, _rows
+from ._ancestors import Ancestry
 from ._library import MOST_BYTES, Text, accepted, call, size, text
 from ._memory import BytesLike, Lent, anonymous, view
 from ._numbers import WORDS
@@ -135,13 +136,13 @@ class File:
         """
         return _rows.array(self._table(), self._count)
 
-    # ---- calls about a row; each reads the file up to that row
+    # ---- calls about a row; each reads the file up to that row, ancestors all of it
 
     def parent(self, row: int, dependency: int) -> Parent | None:
         """The parent that the row's dependency names, both counted from 0; None where it is missing.
 
         Refused with 13 where there is no such row, with 14 where there is no such dependency. Negative numbers don't
-        count from the end here: they raise ValueError, as they do in `parents`, `contents` and `gather`.
+        count from the end here: they raise ValueError, as they do in all calls about a row.
         """
         row, dependency = size(row, "row"), size(dependency, "dependency")
         answer = accepted("ads_parent", Lent(self._bytes()), self.length, row, dependency)
@@ -159,6 +160,20 @@ class File:
         serial, sub_format = _rows.dependency_at(self._bytes(), chunk.place, dependency)
         found = self.parent(chunk.index, dependency)
         return Dependency(serial, sub_format, found.row if found else None, bool(found and found.agree))
+
+    def ancestors(self, row: int) -> Ancestry:
+        """Every row that is reached from the row by dependencies, in one or more steps, each once and in rising order,
+        without the row itself; and how many dependencies of all these, the row included, name no row.
+
+        Refused with 13 where there is no such row, with 24 where the file has more than 64 rows, with 23 where a chain
+        of dependencies from the row comes back to a row on it.
+
+        >>> import ads_metafile
+        >>> ads_metafile.read(b"").ancestors(0)
+        Traceback (most recent call last):
+        ads_metafile._numbers.Refused: refused with 13 (no such row)
+        """
+        return _ancestors.ancestors_of(self._bytes(), size(row, "row"))
 
     def contents(self, row: int) -> memoryview:
         """The row's contents as `ads_contents` names them, not copied. Refused with 13 where there is no such row.

@@ -19,8 +19,8 @@ Text: TypeAlias = str | bytes
 
 MOST_BYTES = 2**30
 SONAME = "libads.so.0"
-VERSION_NODE = "ADS_0.8"
-NEWEST = "ads_price"
+VERSION_NODE = "ADS_0.9"
+NEWEST = "ads_ancestors"
 """The version that the package needs, and a function that has it."""
 _REMEDY = f"run `make` in the repository, or set ADS_LIBRARY to the path of {SONAME}"
 
@@ -59,6 +59,10 @@ class Part(Structure):
     _fields_ = [("place", c_size_t), ("bytes", c_size_t), ("number", c_uint8)]
 
 
+class AncestryAnswer(Structure):
+    _fields_ = [("count", c_size_t), ("missing", c_size_t), ("number", c_uint8)]
+
+
 class Priced(Structure):
     _fields_ = [("length", c_size_t), ("header", c_size_t), ("chunks", c_size_t), ("unread", c_size_t),
                 ("number", c_uint8)]
@@ -89,6 +93,7 @@ _SIGNATURES: dict[str, tuple[Any, ...]] = {
     "ads_read": (Reading, *_LENT, *_LENT),
     "ads_is_clean": (c_bool, Reading, c_size_t),
     "ads_parent": (ParentAnswer, *_LENT, c_size_t, c_size_t),
+    "ads_ancestors": (AncestryAnswer, *_LENT, c_size_t, *_LENT),
     "ads_contents": (Part, *_LENT, c_size_t),
     "ads_gather": (Written, *_LENT, c_size_t, *_TEXT, *_LENT),
     "ads_relations_write": (Written, *_LENT, *_LENT),

@@ -8,34 +8,37 @@ OK = 0
 TITLE, TAPE, MARK_MINI, CUT, DIFFERS, FORM, LENGTH, SHORT_ID, REPEATED = range(1, 10)
 ROWS_FULL, LIMIT, NOT_CLEAN, NO_ROW, NO_DEPENDENCY, MARK_ZERO, OPEN, MULTICHUNK, NO_ROOM = range(10, 19)
 NOT_RELATIONS, HEADING, TOTAL = range(19, 22)
+CIRCLE, ROWS_OVER_64 = range(23, 25)
 
-_LIST = (
-    ("OK", "no refusal"),
-    ("TITLE", "the first 65 bytes are not those of an ADS 1.00 file"),
-    ("TAPE", "NUL with a mark of no bytes, the tape form"),
-    ("MARK_MINI", "the mark begins with MiniChunk="),
-    ("CUT", "the bytes end too soon"),
-    ("DIFFERS", "a label, line feed, mark or listed word differs"),
-    ("FORM", "a field is out of form or range"),
-    ("LENGTH", "a length disagrees with what it measures, or the type count is outside 1 to 64"),
-    ("SHORT_ID", "a short ID is there twice or undeclared, or there is no mini-chunk"),
-    ("REPEATED", "the serial number is already in a row"),
-    ("ROWS_FULL", "another whole chunk with a new serial number, and no row left"),
-    ("LIMIT", "a byte buffer is over 2^30 bytes, or the length is over the buffer's"),
-    ("NOT_CLEAN", "the file isn't clean"),
-    ("NO_ROW", "no such row"),
-    ("NO_DEPENDENCY", "no such dependency, not a MultiChunk, or the short ID is undeclared"),
-    ("MARK_ZERO", "the mark has a zero byte"),
-    ("OPEN", "open under LLC or for BIN, or the mark is found before the data's end"),
-    ("MULTICHUNK", "a MultiChunk can't be appended"),
-    ("NO_ROOM", "the buffer or list is too short for the result"),
-    ("NOT_RELATIONS", "the row isn't a relation chunk"),
-    ("HEADING", "the heading line of the relation chunk differs"),
-    ("TOTAL", "the total has more than 18 digits"),
-)
+_LIST = {
+    0: ("OK", "no refusal"),
+    1: ("TITLE", "the first 65 bytes are not those of an ADS 1.00 file"),
+    2: ("TAPE", "NUL with a mark of no bytes, the tape form"),
+    3: ("MARK_MINI", "the mark begins with MiniChunk="),
+    4: ("CUT", "the bytes end too soon"),
+    5: ("DIFFERS", "a label, line feed, mark or listed word differs"),
+    6: ("FORM", "a field is out of form or range"),
+    7: ("LENGTH", "a length disagrees with what it measures, or the type count is outside 1 to 64"),
+    8: ("SHORT_ID", "a short ID is there twice or undeclared, or there is no mini-chunk"),
+    9: ("REPEATED", "the serial number is already in a row"),
+    10: ("ROWS_FULL", "another whole chunk with a new serial number, and no row left"),
+    11: ("LIMIT", "a byte buffer is over 2^30 bytes, or the length is over the buffer's"),
+    12: ("NOT_CLEAN", "the file isn't clean"),
+    13: ("NO_ROW", "no such row"),
+    14: ("NO_DEPENDENCY", "no such dependency, not a MultiChunk, or the short ID is undeclared"),
+    15: ("MARK_ZERO", "the mark has a zero byte"),
+    16: ("OPEN", "open under LLC or for BIN, or the mark is found before the data's end"),
+    17: ("MULTICHUNK", "a MultiChunk can't be appended"),
+    18: ("NO_ROOM", "the buffer or list is too short for the result"),
+    19: ("NOT_RELATIONS", "the row isn't a relation chunk"),
+    20: ("HEADING", "the heading line of the relation chunk differs"),
+    21: ("TOTAL", "the total has more than 18 digits"),
+    23: ("CIRCLE", "a chain of dependencies comes back to a row on it"),
+    24: ("ROWS_OVER_64", "more than 64 rows in the reading"),
+}
 
-NAMES: dict[int, str] = {number: name for number, (name, _) in enumerate(_LIST)}
-WORDS: dict[int, str] = {number: words for number, (_, words) in enumerate(_LIST)}
+NAMES: dict[int, str] = {number: name for number, (name, _) in _LIST.items()}
+WORDS: dict[int, str] = {number: words for number, (_, words) in _LIST.items()}
 
 
 class Refused(Exception):

@@ -52,6 +52,13 @@ pub struct Part {
 }
 
 #[repr(C)]
+pub struct Ancestry {
+    pub count: usize,
+    pub missing: usize,
+    pub number: u8,
+}
+
+#[repr(C)]
 pub struct Priced {
     pub length: usize,
     pub header: usize,
@@ -78,6 +85,7 @@ extern "C" {
     pub fn ads_read(file: *const u8, length: usize, rows: *mut Row, room: usize) -> Reading;
     pub fn ads_is_clean(reading: Reading, length: usize) -> bool;
     pub fn ads_parent(file: *const u8, length: usize, row: usize, dependency: usize) -> Parent;
+    pub fn ads_ancestors(file: *const u8, length: usize, row: usize, rows: *mut usize, room: usize) -> Ancestry;
     pub fn ads_contents(file: *const u8, length: usize, row: usize) -> Part;
     pub fn ads_gather(
         file: *const u8,

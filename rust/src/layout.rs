@@ -23,6 +23,7 @@ layout!(ffi::CountedRow, 24: count 0, row 8, number 16);
 layout!(ffi::Parent, 16: row 0, found 8, agree 9, number 10);
 layout!(ffi::Ends, 32: first 0, second 8, third 16, number 24);
 layout!(ffi::Part, 24: place 0, bytes 8, number 16);
+layout!(ffi::Ancestry, 24: count 0, missing 8, number 16);
 layout!(ffi::Priced, 40: length 0, header 8, chunks 16, unread 24, number 32);
 layout!(Text<256>, 264: bytes 0, given 256);
 layout!(Text<32>, 40: bytes 0, given 32);

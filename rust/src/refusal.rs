@@ -81,10 +81,10 @@ refusals! {
     Limit = 11, "a byte buffer is over 2^30 bytes, or the length is over the buffer's";
     /// By [`append`](crate::append).
     NotClean = 12, "the file isn't clean";
-    /// By [`parent`](crate::parent), [`contents`](crate::contents), [`gather`](crate::gather) and
-    /// [`relations_check`](crate::relations_check), by [`relations_check_latest`](crate::relations_check_latest) where no
-    /// row is a relation chunk, and by [`append`](crate::append) of the parents, also where one is repeated or there are
-    /// over 16.
+    /// By [`parent`](crate::parent), [`ancestors`](crate::ancestors), [`contents`](crate::contents),
+    /// [`gather`](crate::gather) and [`relations_check`](crate::relations_check), by
+    /// [`relations_check_latest`](crate::relations_check_latest) where no row is a relation chunk, and by
+    /// [`append`](crate::append) of the parents, also where one is repeated or there are over 16.
     NoRow = 13, "no such row";
     /// By [`parent`](crate::parent), of the dependency, and [`gather`](crate::gather), of the rest.
     NoDependency = 14, "no such dependency, not a MultiChunk, or the short ID is undeclared";
@@ -96,8 +96,8 @@ refusals! {
     Multichunk = 17, "a MultiChunk can't be appended";
     /// By [`begin`](crate::begin), [`append`](crate::append), [`gather`](crate::gather),
     /// [`relations_write`](crate::relations_write), [`price`](crate::price) and [`listing`](crate::listing), and by
-    /// [`relations_check`](crate::relations_check) and [`relations_check_latest`](crate::relations_check_latest) of
-    /// their list.
+    /// [`ancestors`](crate::ancestors), [`relations_check`](crate::relations_check) and
+    /// [`relations_check_latest`](crate::relations_check_latest) of their list.
     NoRoom = 18, "the buffer or list is too short for the result";
     /// By [`relations_check`](crate::relations_check).
     NotRelations = 19, "the row isn't a relation chunk";
@@ -105,6 +105,10 @@ refusals! {
     Heading = 20, "the heading line of the relation chunk differs";
     /// By [`price`](crate::price).
     Total = 21, "the total has more than 18 digits";
+    /// By [`ancestors`](crate::ancestors).
+    Circle = 23, "a chain of dependencies comes back to a row on it";
+    /// By [`ancestors`](crate::ancestors).
+    RowsOver64 = 24, "more than 64 rows in the reading";
 }
 
 impl Refusal {

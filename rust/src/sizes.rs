@@ -18,6 +18,9 @@ pub const STACK_BYTES: usize = 1 << 20;
 /// Bytes that are enough for any [`listing`](crate::listing).
 pub const LISTING_ROOM: usize = 10_240;
 
+/// Entries that are enough for the [`ancestors`](crate::ancestors) of any row.
+pub const ANCESTORS_ROOM: usize = 63;
+
 /// Rows that are enough for any file of this length: a chunk has at least 856 bytes.
 ///
 /// ```

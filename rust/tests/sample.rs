@@ -1,5 +1,5 @@
 //! The sample of the specification, and one answer of each kind from every call.
-use ads::{Checked, Description, Ending, Ends, Header, Parent, Refusal, Row, Statement, Verdict};
+use ads::{Ancestry, Checked, Description, Ending, Ends, Header, Parent, Refusal, Row, Statement, Verdict};
 
 const HEADER: Header = Header {
     strategy: b"LLC",
@@ -191,10 +191,10 @@ fn refusals() {
 fn numbers_of_refusals() {
     for number in 0..=u8::MAX {
         let refusal = Refusal::from_number(number);
-        assert_eq!(refusal.is_some(), (1..=21).contains(&number));
+        assert_eq!(refusal.is_some(), (1..=24).contains(&number) && number != 22);
         assert!(refusal.is_none_or(|refusal| refusal.number() == number && u8::from(refusal) == number));
     }
-    assert!(Refusal::Title < Refusal::Total);
+    assert!(Refusal::Title < Refusal::Circle);
     let error: Box<dyn std::error::Error> = Refusal::NotClean.into();
     assert_eq!(error.to_string(), "the file isn't clean (12)");
 }
@@ -321,4 +321,55 @@ fn price_of_18_digits() {
     let statement = ads::price(&file[..length], 999_999_999_999_999_999, 0, &mut buffer).unwrap();
     assert_eq!(&buffer[..statement.length], b"0 3 999999999999999999\ntotal 999999999999999999\n");
     assert_eq!(ads::price(&file[..length], 999_999_999_999_999_999, 1, &mut buffer), Err(Refusal::Total));
+}
+
+/// A chain, a diamond, a missing parent that two rows name, and a row beside them.
+#[test]
+fn ancestors() {
+    let file = include_bytes!("../../samples/ancestors.ads");
+    let of: [(&[usize], usize); 6] = [(&[], 0), (&[], 0), (&[0], 0), (&[0, 2], 0), (&[0, 2], 1), (&[0, 2, 3, 4], 2)];
+    for (row, (rows, missing)) in of.into_iter().enumerate() {
+        let mut list = [7; ads::ANCESTORS_ROOM];
+        assert_eq!(ads::ancestors(file, row, &mut list), Ok(Ancestry { count: rows.len(), missing }));
+        assert_eq!(&list[..rows.len()], rows);
+        assert!(list[rows.len()..].iter().all(|entry| *entry == 7));
+    }
+    let mut list = [7; 3];
+    assert_eq!(ads::ancestors(file, 5, &mut list), Err(Refusal::NoRoom));
+    assert_eq!(ads::ancestors(file, 6, &mut list), Err(Refusal::NoRow));
+    assert_eq!(ads::ancestors(b"", 0, &mut list), Err(Refusal::NoRow));
+    assert_eq!(list, [7; 3]);
+
+    let circle = include_bytes!("../../samples/circle.ads");
+    assert_eq!(ads::ancestors(circle, 0, &mut []), Ok(Ancestry { count: 0, missing: 0 }));
+    for row in 1..4 {
+        assert_eq!(ads::ancestors(circle, row, &mut list), Err(Refusal::Circle));
+    }
+    // rows before a fault count: row 2, the parent of row 1, stands behind it
+    let cut = &circle[..ads::read_all(circle).rows[2].end - 1];
+    assert_eq!(ads::ancestors(cut, 1, &mut list), Ok(Ancestry { count: 0, missing: 1 }));
+    assert_eq!(list, [7; 3]);
+}
+
+/// A chain of 64 rows, then one more.
+#[test]
+fn ancestors_in_64_rows() {
+    let mut buffer = vec![0; ads::append_room(319, 0, 1, 0, 0) + 64 * 1200];
+    let mut length = ads::begin(&HEADER, &mut buffer).unwrap();
+    for row in 0..65 {
+        let mut serial = format!("#20240229123456789SURVEYDESK01{row:05}").into_bytes();
+        let check = serial.iter().map(|byte| u32::from(*byte)).sum::<u32>() % 256;
+        serial.extend(format!("{check:03}").bytes());
+        let description = described(serial[..].try_into().unwrap());
+        let parents: &[usize] = if row == 0 { &[] } else { &[row - 1] };
+        length = ads::append(&mut buffer, length, description, parents, b"", b"", false).unwrap().third;
+        if row == 63 {
+            let mut list = [0; ads::ANCESTORS_ROOM];
+            assert_eq!(ads::ancestors(&buffer[..length], 63, &mut list), Ok(Ancestry { count: 63, missing: 0 }));
+            assert!(list.into_iter().eq(0..63));
+            assert_eq!(ads::ancestors(&buffer[..length], 63, &mut list[..62]), Err(Refusal::NoRoom));
+        }
+    }
+    assert_eq!(ads::ancestors(&buffer[..length], 0, &mut []), Err(Refusal::RowsOver64));
+    assert_eq!(ads::ancestors(&buffer[..length], 65, &mut []), Err(Refusal::NoRow));
 }

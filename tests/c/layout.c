@@ -63,6 +63,11 @@ PLACE(ads_part, place, 0);
 PLACE(ads_part, bytes, 8);
 PLACE(ads_part, number, 16);
 
+SIZE(ads_ancestry, 24);
+PLACE(ads_ancestry, count, 0);
+PLACE(ads_ancestry, missing, 8);
+PLACE(ads_ancestry, number, 16);
+
 SIZE(ads_priced, 40);
 PLACE(ads_priced, length, 0);
 PLACE(ads_priced, header, 8);
@@ -105,3 +110,4 @@ static_assert(ADS_APPEND_ROOM(0, 1, 1, 1, 1) == 856 + 2 + 344 + 1 + 1, "ADS_APPE
 static_assert(ADS_RELATIONS_ROOM(0) == 131 && ADS_RELATIONS_ROOM(1 + 1) == 131 + 605 + 605, "ADS_RELATIONS_ROOM");
 static_assert(ADS_MOST_VERDICTS(130 + 13) >= 1 && ADS_MOST_VERDICTS(12) == 0, "ADS_MOST_VERDICTS");
 static_assert(ADS_PRICE_ROOM(0) == 25 && ADS_PRICE_ROOM(1 + 1) == 25 + 38 + 38, "ADS_PRICE_ROOM");
+static_assert(ADS_ANCESTORS_ROOM == 64 - 1, "ADS_ANCESTORS_ROOM");

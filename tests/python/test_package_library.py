@@ -89,10 +89,10 @@ class Found(unittest.TestCase):
         self.assertEqual(self.answer(ADS_LIBRARY="", LD_LIBRARY_PATH=str(LIBRARY.parent)), "1 libads.so.0")
 
     def test_older(self) -> None:
-        older = self.library("void ads_read(void) {}", "ADS_0.7 { global: ads_*; local: *; };")
+        older = self.library("void ads_read(void) {}", "ADS_0.8 { global: ads_*; local: *; };")
         self.assertRegex(self.answer(ADS_LIBRARY=older),
-                         r"libother.so is an older libads.*needs version ADS_0\.8.*`make`")
-        part = self.library("void ads_price(void) {}", "ADS_0.8 { global: ads_*; local: *; };")
+                         r"libother.so is an older libads.*needs version ADS_0\.9.*`make`")
+        part = self.library("void ads_ancestors(void) {}", "ADS_0.9 { global: ads_*; local: *; };")
         self.assertRegex(self.answer(ADS_LIBRARY=part), "libother.so is no whole libads: it has no ads_begin.*`make`")
         none = self.library("void other(void) {}", "OTHER { global: other; local: *; };")
         self.assertRegex(self.answer(ADS_LIBRARY=none), "libother.so is no libads.*`make`")
@@ -102,7 +102,7 @@ class Layout(unittest.TestCase):
     def test_sizes(self) -> None:
         sizes = {_library.Row: 104, _library.Reading: 24, _library.Written: 16, _library.Counted: 16,
                  _library.CountedRow: 24, _library.ParentAnswer: 16, _library.Ends: 32, _library.Part: 24,
-                 _library.Priced: 40, _library.DescriptionStruct: 504}
+                 _library.AncestryAnswer: 24, _library.Priced: 40, _library.DescriptionStruct: 504}
         self.assertEqual({each: ctypes.sizeof(each) for each in sizes}, sizes)
 
     def test_rows(self) -> None:

@@ -91,7 +91,8 @@ class Views(unittest.TestCase):
         with ads_metafile.open(SAMPLE) as file:
             row = file[0]
         uses = (lambda: file.data, lambda: file.strategy, lambda: file.records(), lambda: file.parent(0, 0),
-                lambda: file.contents(0), lambda: file.gather(0, ""), lambda: file.relations_write(),
+                lambda: file.ancestors(0), lambda: file.contents(0), lambda: file.gather(0, ""),
+                lambda: file.relations_write(),
                 lambda: file.relations_check(0), lambda: file.relations_check_latest(),
                 lambda: file.price(1, 1), lambda: file.listing(), lambda: row.serial,
                 lambda: row.contents, lambda: file.by_serial(""), lambda: file.parents(0))
@@ -114,6 +115,7 @@ class Views(unittest.TestCase):
         data = bytearray(SAMPLE.read_bytes())
         with ads_metafile.open(SAMPLE) as opened, ads_metafile.read(data) as file:
             for call in (lambda: opened.contents(9), lambda: file.gather(9, "x"), lambda: opened.parent(0, 0),
+                         lambda: opened.ancestors(9), lambda: file.ancestors(9), lambda: file.ancestors(-1),
                          lambda: opened.relations_check(0), lambda: file.relations_check(0),
                          lambda: opened.relations_check_latest(), lambda: file.relations_check_latest(),
                          lambda: opened.price(10**18, 0), lambda: file.price(10**18, 0), lambda: file.price(-1, 0),
@@ -123,7 +125,7 @@ class Views(unittest.TestCase):
                 except (Refused, ValueError) as error:
                     kept.append(error)
         data.clear()
-        self.assertEqual(len(kept), 11)
+        self.assertEqual(len(kept), 14)
 
     def test_bytes_of_read_stay_the_callers(self) -> None:
         data = bytearray(SAMPLE.read_bytes())

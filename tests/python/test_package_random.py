@@ -13,7 +13,7 @@ from ads_metafile import Refused
 
 STRANGE: tuple[Any, ...] = (None, True, -1, 0, 1, 2**63, 2**64 - 1, 2**64, 10**40, 1.5, "", "P2/91", "\0", "ü", b"",
                             b"\xff" * 99, bytearray(b"x"), memoryview(b"abcdef")[::2], [], [-1], (1, 2), {}, object())
-FILES = ("survey.ads", "relations.ads", "relations-dated.ads")
+FILES = ("survey.ads", "relations.ads", "relations-dated.ads", "ancestors.ads", "circle.ads")
 EXPECTED = (Refused, TypeError, ValueError, BufferError, LookupError)
 
 
@@ -37,12 +37,13 @@ class Random(unittest.TestCase):
             self.assertTrue(0 <= file.stop <= len(data))
             for row in range(len(file) + 2):
                 for ask in (lambda: file.parents(row), lambda: file.parent(row, self.random.randrange(3)),
-                            lambda: bytes(file.contents(row)), lambda: file.gather(row, "P2/91"),
+                            lambda: file.ancestors(row), lambda: bytes(file.contents(row)),
+                            lambda: file.gather(row, "P2/91"),
                             lambda: file.relations_check(row), file.relations_check_latest):
                     try:
                         ask()
                     except Refused as refused:
-                        self.assertIn(refused.number, (13, 14, 19, 20))
+                        self.assertIn(refused.number, (13, 14, 19, 20, 23))
             for row in file:
                 self.assertEqual(bytes(row.contents), bytes(file.contents(row.index)))
                 self.assertTrue(file.stop >= row.end > row.contents_place > row.place > 0)
@@ -71,6 +72,7 @@ class Random(unittest.TestCase):
         calls: dict[str, Callable[[Any], object]] = {
             "getitem": lambda each: file[each], "by_serial": file.by_serial, "parents": file.parents,
             "row": lambda each: file.parent(each, 0), "dependency": lambda each: file.parent(0, each),
+            "ancestors": file.ancestors,
             "contents": file.contents, "gather": lambda each: file.gather(each, "P2/91"),
             "relations": file.relations_check, "short_id": lambda each: file.gather(0, each),
             "chunk": lambda each: file.price(each, 0), "kib": lambda each: file.price(0, each),
@@ -98,7 +100,7 @@ class Random(unittest.TestCase):
         self.assertGreater(raised, len(calls) * len(STRANGE) // 2)
 
     def test_random_appends(self) -> None:
-        """Files that grow by random chunks read back as handed in."""
+        """Files that grow by random chunks read back as handed in; a row rests on its parents, and on what they do."""
         for strategy, mark in (("LLC", b""), ("NUL", b"mark"), ("NUL", b"\n")):
             data, given = support.begun(strategy, mark), []
             for row in range(12):
@@ -113,6 +115,10 @@ class Random(unittest.TestCase):
                 self.assertTrue(file.clean and all(row.good for row in file))
                 self.assertEqual([(row.serial, bytes(row.contents), [found.row for found in file.parents(row.index)],
                                    row.header) for row in file], given)
+                rests: list[set[int]] = []
+                for row, (_, _, parents, _) in enumerate(given):
+                    rests.append(set(parents).union(*(rests[parent] for parent in parents)))
+                    self.assertEqual(file.ancestors(row), (sorted(rests[row]), 0))
 
 
 if __name__ == "__main__":

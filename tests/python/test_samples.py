@@ -20,7 +20,7 @@ import make  # noqa: E402
 import listings  # noqa: E402
 from support import begun, description  # noqa: E402
 
-MOST_BYTES = 100_000
+MOST_BYTES = 110_000
 
 
 class Told(NamedTuple):
@@ -119,8 +119,8 @@ class Check(unittest.TestCase):
 
 
 class FormatExamples(unittest.TestCase):
-    """docs/FORMAT.md's examples of spaces in front, of offsets, of open data that hold a part of the mark, and of a
-    price statement."""
+    """docs/FORMAT.md's examples of spaces in front, of offsets, of open data that hold a part of the mark, of
+    ancestors, and of a price statement."""
 
     def appended(self, strategy: str, mark: bytes, contents: bytes, is_open: bool, offset: str) -> int:
         """The offset in the row of a chunk that is appended to a file without chunks."""
@@ -161,6 +161,24 @@ class FormatExamples(unittest.TestCase):
             self.appended("NUL", b"ABAB", b"QAB", True, "+0000      0.000")
         self.assertEqual(refused.exception.number, ads_metafile.OPEN)
 
+
+    def test_ancestors(self) -> None:
+        whole = (ROOT / "docs" / "FORMAT.md").read_text(encoding="utf-8")
+        section = whole.split("\n## Ancestors\n")[1].split("\n## ")[0]
+        table = re.findall(r"^\| (\d+) \| ([^|]+) \| ([\d, ]+|none) \| (\d+) \|$", section, re.MULTILINE)
+        with ads_metafile.open(SAMPLES / "ancestors.ads") as file:
+            self.assertEqual([int(row) for row, *_ in table], list(range(len(file))))
+            for row, named, ancestors, missing in table:
+                self.assertEqual(file.ancestors(int(row)),
+                                 ([int(each) for each in re.findall(r"\d+", ancestors)], int(missing)))
+                parents = [each.row for each in file.parents(int(row))]
+                self.assertEqual([int(each) for each in re.findall(r"row (\d+)", named)],
+                                 [each for each in parents if each is not None])
+                self.assertEqual("missing" in named, None in parents)
+        with ads_metafile.open(SAMPLES / "circle.ads") as file:
+            self.assertEqual(file.ancestors(0).rows, [])
+            for row in (1, 2, 3):
+                self.assertRaises(ads_metafile.Refused, file.ancestors, row)
 
     def test_price_statement(self) -> None:
         whole = (ROOT / "docs" / "FORMAT.md").read_text(encoding="utf-8")

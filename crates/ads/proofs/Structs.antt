@@ -1,7 +1,7 @@
 -- The structs that the exports answer, from the calls' own answers. A struct tells a refusal by its number, so a refused
 -- call's number may not be 0.
 --     numbered ..-numbered             a refused call's number is not 0
---     written-done written-refused     the struct for a length, and for a number; so for the count, the parent, the ends and the parts
+--     written-done written-refused     the struct for a length, and for a number; so for the count, the parent, the ends, the ancestors and the parts
 -- Assumes nothing.
 use Prim.Native.Nat.{ℕ, zero, suc}
 use mathlib.Core.Bool.{Bool, true, false, cond}
@@ -16,6 +16,7 @@ use Rattle.metafile.specs.Begin.{BeginGiven, begin}
 use Rattle.metafile.specs.Append.{Given, append}
 use Rattle.metafile.specs.Reading.{rowsOf}
 use Rattle.metafile.specs.Calls.{parentTests, parentRow, agree, parent, gather}
+use Rattle.metafile.specs.Ancestors.{ancestors}
 use Rattle.metafile.specs.Relations.{relationsWrite, relationsCheck, relationsRow, withRow, relationsCheckLatest}
 use Rattle.laws.proofs.First.{untrue}
 use Rattle.listing_text.specs.Text.{listingOutcome}
@@ -25,8 +26,9 @@ use Rattle.ads.specs.declared.answers.Counted.{Counted}
 use Rattle.ads.specs.declared.answers.CountedRow.{CountedRow}
 use Rattle.ads.specs.declared.answers.Parent.{Parent}
 use Rattle.ads.specs.declared.answers.Ends.{Ends}
+use Rattle.ads.specs.declared.answers.Ancestry.{Ancestry}
 use Rattle.ads.specs.declared.answers.Priced.{Priced}
-use Rattle.ads.specs.Answers.{writtenAnswer, writtenAlone, countedAnswer, countedAlone, countedRowAnswer, countedRowAlone, parentAnswer, parentAlone, endsAnswer, endsAlone, pricedAnswer, pricedAlone}
+use Rattle.ads.specs.Answers.{writtenAnswer, writtenAlone, countedAnswer, countedAlone, countedRowAnswer, countedRowAlone, parentAnswer, parentAlone, endsAnswer, endsAlone, ancestryAnswer, ancestryAlone, pricedAnswer, pricedAlone}
 
 -- ---- a refused call's number is not 0
 
@@ -65,6 +67,10 @@ append-numbered buffer len g n after e = writes-numbered _ buffer _ refl n after
 pub gather-numbered : (file : List ℕ) (k : ℕ) (id buffer : List ℕ) (n : ℕ) (after : List ℕ) → outcome (refused n) after ≡ gather file k id buffer → n ≡ 0 → ⊥
 unfolding gather isResult
 gather-numbered file k id buffer n after e = writes-numbered _ buffer _ refl n after e
+
+pub ancestors-numbered : (file : List ℕ) (k : ℕ) (list : List ℕ) (n : ℕ) (after : List ℕ) → outcome (refused n) after ≡ ancestors file k list → n ≡ 0 → ⊥
+unfolding ancestors isResult
+ancestors-numbered file k list n after e = writes-numbered _ list _ refl n after e
 
 pub relations-write-numbered : (file buffer : List ℕ) (n : ℕ) (after : List ℕ) → outcome (refused n) after ≡ relationsWrite file buffer → n ≡ 0 → ⊥
 unfolding relationsWrite isResult
@@ -152,6 +158,17 @@ module _ (after : List ℕ) (o : Outcome) where
   unfolding endsAnswer choose
   ends-refused zero h e = absurd (h refl)
   ends-refused (suc n) h e = (e, refl)
+
+  pub ancestry-done : (k m : ℕ) → outcome (result (k ∷ m ∷ [])) after ≡ o
+      → let w : Ancestry = record { count = k; missing = m; number = 0 } in (outcome (ancestryAnswer w) after ≡ o) × (w ≡ choose 0 w ancestryAlone)
+  unfolding ancestryAnswer choose
+  ancestry-done k m e = (e, refl)
+
+  pub ancestry-refused : (n : ℕ) → (n ≡ 0 → ⊥) → outcome (refused n) after ≡ o
+      → (outcome (ancestryAnswer (ancestryAlone n)) after ≡ o) × (ancestryAlone n ≡ choose n (ancestryAlone n) ancestryAlone)
+  unfolding ancestryAnswer choose
+  ancestry-refused zero h e = absurd (h refl)
+  ancestry-refused (suc n) h e = (e, refl)
 
   pub priced-done : (k h c u : ℕ) → outcome (result (k ∷ h ∷ c ∷ u ∷ [])) after ≡ o
       → let w : Priced = record { length = k; header = h; chunks = c; unread = u; number = 0 } in (outcome (pricedAnswer w) after ≡ o) × (w ≡ choose 0 w pricedAlone)

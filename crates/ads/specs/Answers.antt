@@ -10,6 +10,7 @@ use Rattle.ads.specs.declared.answers.Counted.{Counted}
 use Rattle.ads.specs.declared.answers.CountedRow.{CountedRow}
 use Rattle.ads.specs.declared.answers.Parent.{Parent}
 use Rattle.ads.specs.declared.answers.Ends.{Ends}
+use Rattle.ads.specs.declared.answers.Ancestry.{Ancestry}
 use Rattle.ads.specs.declared.answers.Priced.{Priced}
 
 -- begin, gather, the writer of relations, listing: the length
@@ -46,6 +47,13 @@ endsAnswer e = choose (e .number) (result (e .first ∷ e .second ∷ e .third �
 
 abbrev pub endsAlone : ℕ → Ends
 endsAlone n = record { first = 0; second = 0; third = 0; number = n }
+
+-- ancestors: how many rows are listed, and how many dependencies name no row
+unfoldable pub ancestryAnswer : Ancestry → Answer
+ancestryAnswer a = choose (a .number) (result (a .count ∷ a .missing ∷ [])) (λ n. refused n)
+
+abbrev pub ancestryAlone : ℕ → Ancestry
+ancestryAlone n = record { count = 0; missing = 0; number = n }
 
 -- price: the length of the text, header bytes, chunk bytes, unread bytes
 unfoldable pub pricedAnswer : Priced → Answer

@@ -40,6 +40,14 @@ pub struct Ends {
     pub number: u8,
 }
 
+// ads_ancestry: how many rows are listed, and how many dependencies name no row.
+#[repr(C)]
+pub struct Ancestry {
+    pub count: usize,
+    pub missing: usize,
+    pub number: u8,
+}
+
 // ads_priced: the length of the text, and the file's bytes in three parts.
 #[repr(C)]
 pub struct Priced {

@@ -8,6 +8,7 @@ ghost use Rattle.metafile.specs.Answers.{outcome};
 ghost use Rattle.metafile.specs.Begin.{begin};
 ghost use Rattle.metafile.specs.Append.{append};
 ghost use Rattle.metafile.specs.Calls.{read, parent, contents, gather};
+ghost use Rattle.metafile.specs.Ancestors.{ancestors};
 ghost use Rattle.metafile.specs.Relations.{relationsWrite, relationsCheck, relationsCheckLatest};
 ghost use Rattle.begin.specs.Given.{givenOf as begun};
 ghost use Rattle.append.specs.Given.{givenOf};
@@ -15,7 +16,8 @@ ghost use Rattle.contents.specs.Outcome.{partOf, partOutcome};
 ghost use Rattle.read.specs.State.{readOutcome};
 ghost use Rattle.listing_text.specs.Text.{listingOutcome};
 ghost use Rattle.price.specs.Price.{price};
-ghost use Rattle.ads.specs.Answers.{writtenAnswer, writtenAlone, countedAnswer, countedAlone, countedRowAnswer, countedRowAlone, parentAnswer, parentAlone, endsAnswer, endsAlone, pricedAnswer, pricedAlone};
+ghost use Rattle.ads.specs.Answers.{writtenAnswer, writtenAlone, countedAnswer, countedAlone, countedRowAnswer, countedRowAlone, parentAnswer, parentAlone, endsAnswer, endsAlone, ancestryAnswer, ancestryAlone, pricedAnswer, pricedAlone};
+use crate::answers::Ancestry;
 use crate::answers::Counted;
 use crate::answers::CountedRow;
 use crate::answers::Ends;
@@ -24,6 +26,7 @@ use crate::answers::Priced;
 use crate::answers::Written;
 use contents::Part;
 use listing_text::ListingAnswer;
+use metafile::AncestorsAnswer;
 use metafile::AppendAnswer;
 use metafile::BeginAnswer;
 use metafile::Description;
@@ -169,6 +172,26 @@ pub extern "C" fn ads_gather(file: &[u8], row: usize, id: &[u8], buffer: &mut [u
     match answer {
         GatherAnswer::Joined(length) => Written { length, number: 0 },
         GatherAnswer::Refused(number) => Written { length: 0, number },
+    }
+}
+
+#[no_mangle]
+pub extern "C" fn ads_ancestors(file: &[u8], row: usize, rows: &mut [usize]) -> Ancestry
+    ensures answer { λ r. ⌜ outcome (ancestryAnswer r) (now (rows .exit)) ≡ ancestors (now (file .entry)) row (now (rows .entry)) ⌝ }
+    ensures alone { λ r. ⌜ r ≡ choose (r .number) r ancestryAlone ⌝ }
+{
+    let answer = ancestors::ancestors(file, row, rows);
+    match answer {
+        AncestorsAnswer::Reached(count, missing) => Ancestry {
+            count,
+            missing,
+            number: 0,
+        },
+        AncestorsAnswer::Refused(number) => Ancestry {
+            count: 0,
+            missing: 0,
+            number,
+        },
     }
 }
 

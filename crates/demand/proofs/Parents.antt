@@ -151,10 +151,10 @@ module _ (old : List ℕ) (g : Given) (a : Taken old g) (e₁ e₃ : ℕ) (is : 
   new-chunk = rw new-last (drop-append-seam old (chunkBytes old g))
 
   module _ (j : ℕ) (h : j < length (g .parents)) where
-    named-below : getD (g .parents) j 0 < length (rowsOf old)
+    pub named-below : getD (g .parents) j 0 < length (rowsOf old)
     named-below = below-at (length (rowsOf old)) (g .parents) j h (a .parents-below)
 
-    new-parentRow : parentRow (old ++ chunkBytes old g) (length (rowsOf old)) j ≡ getD (g .parents) j 0
+    pub new-parentRow : parentRow (old ++ chunkBytes old g) (length (rowsOf old)) j ≡ getD (g .parents) j 0
     unfolding parentRow
     new-parentRow =
         let self = rowWith-self (rowsOf old) [] (getD (g .parents) j 0) named-below (file-fresh old) in

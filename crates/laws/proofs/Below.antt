@@ -1,12 +1,14 @@
 -- What is asked of the numbers below n, and what they give.
 --     any-true any-cases any-none any-next   one of them passes the test, or none does
+--     any-more sum-more join-more   one number more
+--     any-same sum-same join-same   where the same is asked of each, or each gives the same
 --     sum-grows sum-part sum-most   more numbers give no less; one of them; each at most b
---     sum-same sum-first             the same numbers; the first by itself
---     join-long                      the length of their lists, one behind the other
+--     sum-first                     the first by itself
+--     join-long                     the length of their lists, one behind the other
 --     Every                          a property of all elements of a list; every-join: of lists one behind the other
 -- Assumes nothing.
 use Prim.Native.Nat.{ℕ, zero, suc, _+_, _*_, _≤_, _<_}
-use mathlib.Core.Bool.{Bool, true, false}
+use mathlib.Core.Bool.{Bool, true, false, _||_}
 use mathlib.Core.Path.{_≡_, refl, sym, ap, _∙_}
 use mathlib.Core.List.{List, [], _∷_, _++_}
 use native.Mathlib.Nat.{mul-suc}
@@ -45,7 +47,29 @@ module _ (p : ℕ → Bool) where
   unfolding anyBelow
   any-next n e q = rw (add-one n, e, q)
 
+pub any-more : (n : ℕ) (p : ℕ → Bool) → anyBelow (n + 1) p ≡ (anyBelow n p || p n)
+unfolding anyBelow
+any-more n p = rw (add-one n)
+
+pub any-same : (n : ℕ) (p q : ℕ → Bool) → ((k : ℕ) → k < n → p k ≡ q k) → anyBelow n p ≡ anyBelow n q
+unfolding anyBelow
+any-same zero p q e = refl
+any-same (suc n) p q e = rw (any-same n p q (λ k h. e k (omega arith)), e n (omega arith))
+
 -- ---- numbers added up, lists one behind the other
+
+pub sum-more : (n : ℕ) (f : ℕ → ℕ) → sumBelow (n + 1) f ≡ sumBelow n f + f n
+unfolding sumBelow
+sum-more n f = rw (add-one n)
+
+pub join-more : {A : Type 0} (n : ℕ) (f : ℕ → List A) → joinBelow (n + 1) f ≡ joinBelow n f ++ f n
+unfolding joinBelow
+join-more n f = rw (add-one n)
+
+pub join-same : {A : Type 0} (n : ℕ) (f g : ℕ → List A) → ((k : ℕ) → k < n → f k ≡ g k) → joinBelow n f ≡ joinBelow n g
+unfolding joinBelow
+join-same zero f g e = refl
+join-same (suc n) f g e = rw (join-same n f g (λ k h. e k (omega arith)), e n (omega arith))
 
 module _ (f : ℕ → ℕ) where
   pub sum-grows : (k n : ℕ) → k ≤ n → sumBelow k f ≤ sumBelow n f

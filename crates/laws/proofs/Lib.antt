@@ -5,6 +5,7 @@
 -- Zero       what holds no zero byte: digits, text, date, offset, serial number; what is text
 -- Dates      what reading a date or a serial number gives
 -- Below      tests of the numbers below n, and a property of all elements of their lists
+-- Closure    what is reached in steps: every step, closed, least; circles
 -- Split      bytes divided at a byte, fields with it between them, lines each with its LF
 -- Table      the field rule, and the laws of a run over a stretch of fields: enough, local, zero-free, round trip
 -- Stages     stages in a row as code goes through them, and bytes at a place
@@ -22,6 +23,7 @@ pub mod SameSerial
 pub mod Zero
 pub mod Dates
 pub mod Below
+pub mod Closure
 pub mod Split
 pub mod Table
 pub mod Stages

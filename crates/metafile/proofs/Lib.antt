@@ -8,6 +8,8 @@
 -- Relations     the contents of ADS\SYS\Relations, written and checked
 -- DayNumbers    the numbers of days
 -- Latest        which of several relation chunks holds
+-- Ways          what is reached in steps, where the parents of each row are given
+-- Circles       circles of parents
 -- Given         a text that is given, and what append sees of it
 pub mod Computed
 pub mod Samples
@@ -19,4 +21,6 @@ pub mod SpacesInFront
 pub mod Relations
 pub mod DayNumbers
 pub mod Latest
+pub mod Ways
+pub mod Circles
 pub mod Given

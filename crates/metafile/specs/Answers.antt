@@ -18,6 +18,8 @@ use Rattle.metafile.specs.declared.RelationsCheckAnswer.{RelationsCheckA
 use Rattle.metafile.specs.declared.RelationsCheckAnswer.the-variants.{Checked, Refused as RelationsCheckRefused}
 use Rattle.metafile.specs.declared.RelationsLatestAnswer.{RelationsLatestAnswer}
 use Rattle.metafile.specs.declared.RelationsLatestAnswer.the-variants.{Checked as LatestChecked, Refused as RelationsLatestRefused}
+use Rattle.metafile.specs.declared.AncestorsAnswer.{AncestorsAnswer}
+use Rattle.metafile.specs.declared.AncestorsAnswer.the-variants.{Reached, Refused as AncestorsRefused}
 use Rattle.metafile.specs.Bytes.{choose}
 
 -- an accepted call's values, in the order of the paper, or one refusal number
@@ -62,6 +64,11 @@ relationsCheckAnswer (RelationsCheckRefused n) = refused n
 unfoldable pub relationsLatestAnswer : RelationsLatestAnswer → Answer
 relationsLatestAnswer (LatestChecked count row) = result (count ∷ row ∷ [])
 relationsLatestAnswer (RelationsLatestRefused n) = refused n
+
+-- how many rows are listed, and how many dependencies name no row
+unfoldable pub ancestorsAnswer : AncestorsAnswer → Answer
+ancestorsAnswer (Reached count missing) = result (count ∷ missing ∷ [])
+ancestorsAnswer (AncestorsRefused n) = refused n
 
 -- ---- refusals
 

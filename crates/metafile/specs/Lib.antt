@@ -14,6 +14,8 @@
 --     Append     append: tests, the three writes, the buffer afterwards
 --     Calls      read, parent, contents, gather
 --     Below      tests and lists over the numbers below another
+--     Closure    what is reached in steps between rows, and circles
+--     Ancestors  ancestors: the rows that a row rests on
 --     Relations  the contents of ADS\SYS\Relations: written, checked
 --     Cut        what a power cut leaves
 --     Demand     what is demanded of a reading after a power cut
@@ -33,6 +35,8 @@ pub mod Description
 pub mod Append
 pub mod Calls
 pub mod Below
+pub mod Closure
+pub mod Ancestors
 pub mod Relations
 pub mod Cut
 pub mod Demand

@@ -100,6 +100,12 @@ pub enum RelationsLatestAnswer {
     Refused(u8),
 }
 
+// What ancestors answers: how many rows are listed, and how many dependencies name no row.
+pub enum AncestorsAnswer {
+    Reached(usize, usize),
+    Refused(u8),
+}
+
 // A text as it was given: its first bytes, and its whole length, which may be more than the field is wide.
 #[repr(C)]
 pub struct Text256 {

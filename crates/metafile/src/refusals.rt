@@ -62,3 +62,9 @@ pub const HEADING: u8 = 20;
 
 // price: the total has more than 18 digits
 pub const TOTAL: u8 = 21;
+
+// ancestors: a chain of dependencies comes back to a row on it
+pub const CIRCLE: u8 = 23;
+
+// ancestors: more than 64 rows in the reading
+pub const ROWS_OVER_64: u8 = 24;

@@ -13,7 +13,7 @@
 //     lookahead  how many rows are there, by a look at the chunks ahead
 //     rows     what stands behind i rows: the chunk, its serial number, the step
 //     cursor   the cursor over the rows: at the first, at the next
-//     known    the rows once more, behind a reading
+//     known    where the parts of a row stand; the rows once more, behind a reading
 //     walks    the row of a number, the row of a serial number
 //     surveys  one reading for all that append asks of the file
 mod answers;
@@ -42,6 +42,7 @@ pub use known::Places;
 pub use known::cursor_at;
 pub use known::last;
 pub use known::row_at;
+pub use known::row_here;
 pub use rows::chunk_at;
 pub use rows::serial_at;
 pub use surveys::survey;

@@ -7,7 +7,7 @@ from collections.abc import Callable
 from typing import Any, NoReturn, TypeAlias
 
 from .. import __version__
-from . import checking, cutting, fields, listing, parts, pricing, relations, writing
+from . import ancestors, checking, cutting, fields, listing, parts, pricing, relations, writing
 from .output import USAGE, Earned, flush, put, put_message
 
 Run: TypeAlias = Callable[[Namespace, Earned], None]
@@ -104,12 +104,29 @@ def add_parts(add: Callable[..., ArgumentParser]) -> None:
                "  ads parents survey.ads\n  ads parents survey.ads 3")
     add_row(made, "only this row, counted from 0", nargs="?")
     made.add_argument("--json", action="store_true", help="print one JSON object")
+    add_ancestors(add)
     made = add("gather", parts.run_gather, "join the mini-chunks of a MultiChunk under one short ID",
                "Writes the data of a MultiChunk's mini-chunks under one short ID, joined in order.",
                "  ads gather survey.ads 2 P2/91 -o depths.txt")
     add_row(made, "row of a MultiChunk, counted from 0")
     made.add_argument("id", metavar="ID", help="short ID, at most 10 characters")
     add_output(made)
+
+
+def add_ancestors(add: Callable[..., ArgumentParser]) -> None:
+    made = add("ancestors", ancestors.run, "show every chunk that a chunk rests on",
+               "Shows every row that is reached from a row by dependencies, in one or more steps, each once and in "
+               "file order; then how many there are, and how many dependencies of the row and of those name no row of "
+               "the file. It is refused with 23 where a chain of dependencies comes back to a row on it, with 24 where "
+               "the file has more than 64 rows. A file that isn't clean is taken up to where its reading stops, a "
+               "message says so, and the status is 1.",
+               "  ads ancestors survey.ads 3\n  ads ancestors survey.ads 3 --tree")
+    add_row(made, "row, counted from 0")
+    either = made.add_mutually_exclusive_group()
+    either.add_argument("--tree", action="store_true",
+                        help="show the row and, under each row and farther in, what its dependencies name; a row that "
+                        "stands above isn't opened again")
+    either.add_argument("--json", action="store_true", help="print one JSON object")
 
 
 def add_relations(add: Callable[..., ArgumentParser]) -> None:

@@ -108,6 +108,29 @@ impl Run {
         plain
     }
 
+    /// Answers the rows, and how many dependencies name none.
+    pub fn ancestors(&mut self, file: &[u8], row: usize, room: usize) -> Result<(Vec<usize>, usize), u8> {
+        let (mut proved_missing, mut plain_missing) = (0, 0);
+        let rows = self.written(
+            Call::Ancestors,
+            || format!("ancestors of row {row}"),
+            file,
+            room,
+            |rows| {
+                let answer = ffi::ancestors(file, row, rows);
+                proved_missing = answer.missing;
+                (answer.count, answer.number)
+            },
+            |rows| {
+                let answer = plain::ancestors(file, row, rows)?;
+                plain_missing = answer.missing;
+                Ok(answer.count)
+            },
+        );
+        self.same(|| format!("ancestors of row {row}: missing"), proved_missing, plain_missing, file, 0);
+        Ok((rows?, plain_missing))
+    }
+
     pub fn contents<'f>(&mut self, file: &'f [u8], row: usize) -> Result<&'f [u8], u8> {
         let proved = self.proved(file, || ffi::contents(file, row));
         let plain = plain::contents(file, row);
@@ -147,7 +170,7 @@ impl Run {
         };
         self.same(|| format!("{} into {room}", name()), proved, (length, number), file, 0);
         if let Some(at) = (0..room + BEHIND).find(|&at| lent[0][at] != lent[1][at]) {
-            let shown: Vec<u8> = lent[0].iter().map(|&each| each.into() as u8).collect();
+            let shown: Vec<u8> = lent[0].iter().map(|&each| each.try_into().unwrap_or(PATTERN)).collect();
             let what = format!("{} into {room}: at {at} are {:?} and {:?}", name(), lent[0][at], lent[1][at]);
             self.fail(&what, &shown, at);
         }
@@ -312,9 +335,9 @@ impl Run {
 }
 
 /// What buffers and lists hold.
-trait Lent: Copy + Debug + PartialEq + From<u8> + Into<u64> {}
+trait Lent: Copy + Debug + PartialEq + From<u8> + TryInto<u8> {}
 
-impl<T: Copy + Debug + PartialEq + From<u8> + Into<u64>> Lent for T {}
+impl<T: Copy + Debug + PartialEq + From<u8> + TryInto<u8>> Lent for T {}
 
 /// What append is given beside the buffer and the file's length.
 #[derive(Clone)]

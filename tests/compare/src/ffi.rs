@@ -83,6 +83,15 @@ pub struct CountedRow {
     pub number: u8,
 }
 
+/// How many rows are listed, and how many dependencies name none.
+#[repr(C)]
+#[derive(Clone, Copy, Debug, PartialEq, Eq)]
+pub struct Ancestry {
+    pub count: usize,
+    pub missing: usize,
+    pub number: u8,
+}
+
 /// The length of the text, and the file's bytes in three parts.
 #[repr(C)]
 #[derive(Clone, Copy, Debug, PartialEq, Eq)]
@@ -138,7 +147,9 @@ const ENDINGS: [Ending; 3] = [Ending::Counted, Ending::Found, Ending::ByMiniChun
 
 #[rustfmt::skip]
 mod c {
-    use super::{Counted, CountedRow, Description, Ends, ParentAnswer, Part, Priced, Reading, Row, Serial, Written};
+    use super::{
+        Ancestry, Counted, CountedRow, Description, Ends, ParentAnswer, Part, Priced, Reading, Row, Serial, Written,
+    };
 
     extern "C" {
         pub fn ads_description_new() -> Description;
@@ -165,6 +176,7 @@ mod c {
         pub fn ads_append(buffer: *mut u8, buffer_length: usize, length: usize, description: Description,
             parents: *const usize, parent_count: usize, specific: *const u8, specific_length: usize,
             contents: *const u8, contents_length: usize, open: bool) -> Ends;
+        pub fn ads_ancestors(file: *const u8, length: usize, row: usize, rows: *mut usize, room: usize) -> Ancestry;
         pub fn ads_contents(file: *const u8, length: usize, row: usize) -> Part;
         pub fn ads_gather(file: *const u8, length: usize, row: usize, id: *const u8, id_length: usize,
             buffer: *mut u8, buffer_length: usize) -> Written;
@@ -302,6 +314,17 @@ pub fn parent(file: &[u8], row: usize, dependency: usize) -> ParentAnswer {
     lent(file, |file| unsafe { c::ads_parent(file.as_ptr(), file.len(), row, dependency) })
 }
 
+/// ADS_ANCESTORS_ROOM
+pub const ANCESTORS_ROOM: usize = 63;
+
+pub fn ancestors(file: &[u8], row: usize, rows: &mut [usize]) -> Ancestry {
+    lent(file, |file| {
+        lent_mut(rows, |rows| unsafe {
+            c::ads_ancestors(file.as_ptr(), file.len(), row, rows.as_mut_ptr(), rows.len())
+        })
+    })
+}
+
 #[rustfmt::skip]
 pub fn append(
     buffer: &mut [u8], length: usize, description: Description, parents: &[usize], specific: &[u8], contents: &[u8], open: bool,
@@ -371,7 +394,9 @@ pub fn listing(input: &[u8], buffer: &mut [u8]) -> Written {
 /// Calls in which a length is claimed that is over 2^30, or over the buffer's, beside a pointer to few bytes.
 #[rustfmt::skip]
 pub mod claimed {
-    use super::{c, Counted, CountedRow, Description, Ends, ParentAnswer, Part, Priced, Reading, Table, Written};
+    use super::{
+        c, Ancestry, Counted, CountedRow, Description, Ends, ParentAnswer, Part, Priced, Reading, Table, Written,
+    };
 
     const FEW: [u8; 8] = [0; 8];
 
@@ -397,6 +422,11 @@ pub mod claimed {
     pub fn parent(length: usize) -> ParentAnswer {
         assert!(length > 1 << 30);
         unsafe { c::ads_parent(few(length).0, length, 0, 0) }
+    }
+
+    pub fn ancestors(length: usize, rows: &mut [usize; 2]) -> Ancestry {
+        assert!(length > 1 << 30);
+        unsafe { c::ads_ancestors(few(length).0, length, 0, rows.as_mut_ptr(), rows.len()) }
     }
 
     pub fn contents(length: usize) -> Part {

@@ -10,6 +10,7 @@
 //! | `simple` | files of very many empty chunks |
 //! | `hashes` | the hash of serial numbers; serial numbers with one hash |
 //! | `relations` | the contents of a relation chunk |
+//! | `graph` | rows that depend on each other |
 //! | `damage` | damages of each kind of field |
 //! | `describe` | a chunk description for both |
 //! | `both` | each call with both, compared |
@@ -22,6 +23,7 @@ pub mod damage;
 pub mod describe;
 pub mod ffi;
 pub mod generate;
+pub mod graph;
 pub mod hashes;
 pub mod kernels;
 pub mod parts;

@@ -7,6 +7,7 @@ pub enum Call {
     Begin,
     Read,
     Parent,
+    Ancestors,
     Append,
     Contents,
     Gather,
@@ -18,10 +19,11 @@ pub enum Call {
 }
 
 /// Each call and the numbers that it can give.
-const CALLS: [(&str, &[u8]); 11] = [
+const CALLS: [(&str, &[u8]); 12] = [
     ("begin", &[0, 2, 3, 6, 11, 15, 18]),
     ("read", &[0, 1, 2, 3, 4, 5, 6, 7, 8, 9, 10, 11]),
     ("parent", &[0, 11, 13, 14]),
+    ("ancestors", &[0, 11, 13, 18, 23, 24]),
     ("append", &[0, 6, 9, 11, 12, 13, 15, 16, 17, 18]),
     ("contents", &[0, 11, 13]),
     ("gather", &[0, 11, 13, 14, 18]),
@@ -32,9 +34,17 @@ const CALLS: [(&str, &[u8]); 11] = [
     ("listing", &[0, 11, 18]),
 ];
 
+/// One more than the highest number.
+const NUMBERS: usize = 25;
+
+/// No call gives 22.
+fn numbers() -> impl Iterator<Item = usize> {
+    (0..NUMBERS).filter(|&number| number != 22)
+}
+
 #[derive(Default)]
 pub struct Tally {
-    times: [[u64; 22]; 11],
+    times: [[u64; NUMBERS]; 12],
     endings: [u64; 3],
     verdicts: [u64; 3],
     spaced: u64,
@@ -58,6 +68,11 @@ impl Tally {
         }
     }
 
+    /// How often the call gave the number.
+    pub fn times(&self, call: Call, number: u8) -> u64 {
+        self.times[call as usize][usize::from(number)]
+    }
+
     pub fn total(&self) -> u64 {
         self.times.iter().flatten().sum()
     }
@@ -68,7 +83,7 @@ impl Tally {
             print!("{name:>12}");
         }
         println!("{:>10}", "all");
-        for number in 0..22 {
+        for number in numbers() {
             print!("{number:>10}");
             for times in &self.times {
                 print!("{:>12}", times[number]);
@@ -87,8 +102,7 @@ impl Tally {
         println!("rows with spaces in front of the serial number's check: {}", self.spaced);
     }
 
-    /// Each number that a call can give arose, and no other; with 1 to 21 each one arose somewhere. So did each ending and
-    /// each verdict.
+    /// Each number that a call can give arose, and no other; each number arose somewhere. So did each ending and each verdict.
     pub fn check(&self) {
         for ((name, can), times) in CALLS.iter().zip(&self.times) {
             for (number, &times) in times.iter().enumerate() {
@@ -96,7 +110,7 @@ impl Tally {
                 assert_eq!(times > 0, can, "{name} gave number {number} {times} times");
             }
         }
-        for number in 1..=21 {
+        for number in numbers() {
             assert!(self.times.iter().any(|times| times[number] > 0), "no call gave number {number}");
         }
         assert!(self.endings.iter().all(|&rows| rows > 0), "an ending is missing: {:?}", self.endings);

@@ -5,6 +5,7 @@
 use std::thread;
 
 use compare::ffi::{self, Table};
+use compare::graph::{self, all_before, chain};
 use compare::hashes::one_hash;
 use compare::parts::every_call::{new_serials, Case};
 use compare::relations::{HEADING_BYTES, LINE_BYTES};
@@ -32,6 +33,20 @@ fn each_call_that_reads() {
     in_small_thread(|| assert_eq!(ffi::contents(file, case.last).number, 0));
     in_small_thread(|| assert_eq!(ffi::parent(file, case.last, 1).row, case.late));
     in_small_thread(|| assert_eq!(ffi::gather(file, case.multi, b"P1", &mut [0; 8]).length, 8));
+}
+
+/// The longest chain, and the most chains.
+#[test]
+fn ancestors() {
+    let serials = [one_hash(2), random(62)].concat();
+    for graph in [chain(64), all_before(64)] {
+        let file = graph::file(&graph, &serials).bytes;
+        let mut rows = [0; ffi::ANCESTORS_ROOM];
+        in_small_thread(|| assert_eq!(ffi::ancestors(&file, 63, &mut rows).count, 63));
+        assert!(rows.into_iter().eq(0..63));
+    }
+    let case = case(2_000);
+    in_small_thread(|| assert_eq!(ffi::ancestors(&case.bytes, case.last, &mut []).number, 24));
 }
 
 #[test]

@@ -48,6 +48,7 @@ fn no_bytes() {
     }
     for row in [0, 1, usize::MAX] {
         assert_eq!(Run::new(0).parent(&[], row, 0).err(), Some(13));
+        assert_eq!(Run::new(0).ancestors(&[], row, 0), Err(13));
         assert_eq!(Run::new(0).contents(&[], row), Err(13));
         assert_eq!(Run::new(0).gather(&[], row, b"P2/91", 100), Err(13));
         assert_eq!(Run::new(0).relations_check(&[], row, 0), Err(13));

@@ -12,11 +12,13 @@
 //! | `writer` | lines written into a lent buffer |
 //! | `begin`, `append` | the calls that write a file |
 //! | `parent`, `part` | `parent`; `contents` and `gather` |
+//! | `ancestors` | every row that a row rests on |
 //! | `relations` | the contents of a relation chunk, written and checked |
 //! | `price` | the price statement |
 //! | `listing` | the text of the listing |
 #![forbid(unsafe_code)]
 
+mod ancestors;
 mod append;
 mod begin;
 mod chunk;
@@ -34,6 +36,7 @@ mod reading;
 mod relations;
 mod writer;
 
+pub use ancestors::{ancestors, Ancestry};
 pub use append::{append, Ends};
 pub use begin::{begin, Beginning};
 pub use chunk::Ending;

@@ -42,6 +42,10 @@ pub const RELATIONS: u8 = 19;
 pub const HEADING: u8 = 20;
 /// "A total above 18 digits is refused with 21"
 pub const TOTAL: u8 = 21;
+/// "If a chain from k comes back to any chunk on it, the number is 23"
+pub const CIRCLE: u8 = 23;
+/// "more than 64 rows in the reading gives 24"
+pub const OVER_64: u8 = 24;
 
 /// "a lent byte buffer over 2^30"
 pub fn over_limit(lengths: &[usize]) -> bool {

@@ -6,7 +6,7 @@ use plain::{Parent, Serial};
 use crate::both::{Appended, Run};
 use crate::build::{Contents, File, Type};
 use crate::describe::Step;
-use crate::ffi::price_room;
+use crate::ffi::{price_room, ANCESTORS_ROOM};
 use crate::generate::{otherwise, with_check};
 use crate::parts::appends;
 use crate::random::Random;
@@ -78,6 +78,7 @@ fn two_chunks(known: &[Serial], last: Serial) -> Vec<u8> {
 pub fn run(run: &mut Run, case: &Case) {
     contents(run, case);
     parents(run, case);
+    ancestors(run, case);
     assert_eq!(run.gather(&case.bytes, case.multi, b"P1", 8), Ok(b"onethree".to_vec()));
     assert_eq!(run.gather(&case.bytes, case.empty, b"P1", 8), Err(14));
     relations(run, case);
@@ -104,6 +105,14 @@ fn parents(run: &mut Run, case: &Case) {
     }
     assert_eq!(run.parent(&case.bytes, case.last, 5), Ok(None));
     assert_eq!(run.parent(&case.bytes, case.last, 6), Err(14));
+}
+
+/// There are more than 64 rows.
+fn ancestors(run: &mut Run, case: &Case) {
+    for row in [case.early, case.empty, case.last] {
+        assert_eq!(run.ancestors(&case.bytes, row, ANCESTORS_ROOM), Err(24));
+    }
+    assert_eq!(run.ancestors(&case.bytes, case.last + 1, ANCESTORS_ROOM), Err(13));
 }
 
 fn relations(run: &mut Run, case: &Case) {

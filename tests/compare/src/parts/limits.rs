@@ -25,6 +25,8 @@ fn real(run: &mut Run) {
     run.read(&long[1..], 2);
     let _ = run.parent(&long, 0, 0);
     let _ = run.parent(&long[1..], 0, 0);
+    let _ = run.ancestors(&long, 0, 2);
+    let _ = run.ancestors(&long[1..], 0, 2);
     let _ = run.contents(&long, 0);
     let _ = run.contents(&long[1..], 0);
     let _ = run.gather(&long, 0, b"", 0);
@@ -138,6 +140,10 @@ fn claims(run: &mut Run) {
         one(run, Call::Price, claimed::price(length, (&mut buffer, 8)).number);
         one(run, Call::Price, claimed::price(8, (&mut buffer, length)).number);
         one(run, Call::Listing, claimed::listing(8, (&mut buffer, length)).number);
+
+        let mut rows = [7; 2];
+        one(run, Call::Ancestors, claimed::ancestors(length, &mut rows).number);
+        run.demand(rows == [7; 2], "ancestors touched the list", b"", 0);
 
         let mut verdicts = [7; 2];
         one(run, Call::RelationsCheck, claimed::relations_check(length, &mut verdicts).number);

@@ -1,5 +1,6 @@
 //! The cases, part by part.
 
+pub mod ancestors;
 pub mod appends;
 pub mod begins;
 pub mod cuts;
@@ -41,6 +42,7 @@ pub fn look(run: &mut Run, random: &mut Random, file: &[u8], count: usize) {
         let _ = run.relations_write(file, 50 * room);
         let _ = run.relations_check(file, row, room);
         let _ = run.relations_check_latest(file, room);
+        let _ = run.ancestors(file, row, room);
         let _ = run.price(file, (random.next(), random.next() >> 40), room);
     }
 }

@@ -1,5 +1,6 @@
-//! Cases worked out by hand from the specification, and each number 1 to 21.
+//! Cases worked out by hand from the specification, and each number that a call gives.
 
+mod ancestors;
 mod calls;
 mod fields;
 mod padded;
@@ -75,6 +76,14 @@ pub fn chunk(mark: &[u8], random: u32, count: usize, data: &[u8]) -> Vec<u8> {
     bytes.extend(format!("Chunk_Content_Length={count:012}\n").bytes());
     bytes.extend(data);
     closed(bytes, mark, &serial(random))
+}
+
+/// A chunk that has these parents.
+pub fn depending(random: u32, sub_format: &str, parents: &[(Serial, &str)], data: &[u8]) -> Vec<u8> {
+    let mut bytes = chunk_header(sub_format, parents, 0);
+    bytes.extend(format!("Chunk_Content_Length={:012}\n", data.len() + 1).bytes());
+    bytes.extend(data);
+    closed(bytes, b"", &serial(random))
 }
 
 /// A MultiChunk with these short IDs, these mini-chunks and so many bytes of specific data for each type.

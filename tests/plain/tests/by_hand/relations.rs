@@ -6,7 +6,7 @@ use plain::{append, relations_check, relations_check_latest, relations_write, Se
 
 use crate::calls::{description, lent};
 use crate::padded::other;
-use crate::{chunk_header, closed, file, header, serial, with};
+use crate::{chunk_header, closed, depending, file, header, serial, with};
 
 const TEST: &str = "ADS\\DATA\\TEST";
 const EDIT: &str = "ADS\\DATA\\EDIT";
@@ -15,14 +15,6 @@ const RELATIONS: &str = "ADS\\SYS\\Relations";
 /// A line of chapter 7: its five texts and the tabs between them.
 const HEADING: &str = "ADS Metafile Master Relation Chunk Revision 1.00\tChild serial number\tChild sub-format ID\t\
                        Parent serial number\tParent sub-format ID";
-
-/// A chunk that has these parents.
-fn depending(random: u32, sub_format: &str, parents: &[(Serial, &str)], data: &[u8]) -> Vec<u8> {
-    let mut bytes = chunk_header(sub_format, parents, 0);
-    bytes.extend(format!("Chunk_Content_Length={:012}\n", data.len() + 1).bytes());
-    bytes.extend(data);
-    closed(bytes, b"", &serial(random))
-}
 
 /// Row 0 without parents; row 1 depends on it, on a missing one and on a later one, with another name; row 2 on row 0.
 fn family() -> Vec<Vec<u8>> {

@@ -1,0 +1,2 @@
+-- Laws   what the table says, and what the functions do to the marks
+pub mod Laws
