@@ -2,7 +2,7 @@
 
 // ads_written: the length of what was written.
 #[repr(C)]
-#[derive(Drop)]
+#[derive(Clone, Copy)]
 pub struct Written {
     pub length: usize,
     pub number: u8,
@@ -10,7 +10,7 @@ pub struct Written {
 
 // ads_counted: how many entries of a list were written.
 #[repr(C)]
-#[derive(Drop)]
+#[derive(Clone, Copy)]
 pub struct Counted {
     pub count: usize,
     pub number: u8,
@@ -18,7 +18,7 @@ pub struct Counted {
 
 // ads_counted_row: the same, and the row that was chosen.
 #[repr(C)]
-#[derive(Drop)]
+#[derive(Clone, Copy)]
 pub struct CountedRow {
     pub count: usize,
     pub row: usize,
@@ -27,7 +27,7 @@ pub struct CountedRow {
 
 // ads_parent_answer: the row, if one was found, and whether the sub-formats agree.
 #[repr(C)]
-#[derive(Drop)]
+#[derive(Clone, Copy)]
 pub struct Parent {
     pub row: usize,
     pub found: bool,
@@ -37,7 +37,7 @@ pub struct Parent {
 
 // ads_ends: the ends of the three writes.
 #[repr(C)]
-#[derive(Drop)]
+#[derive(Clone, Copy)]
 pub struct Ends {
     pub first: usize,
     pub second: usize,
@@ -47,7 +47,7 @@ pub struct Ends {
 
 // ads_ancestry: how many rows are listed, and how many dependencies name no row.
 #[repr(C)]
-#[derive(Drop)]
+#[derive(Clone, Copy)]
 pub struct Ancestry {
     pub count: usize,
     pub missing: usize,
@@ -56,7 +56,7 @@ pub struct Ancestry {
 
 // ads_priced: the length of the text, and the file's bytes in three parts.
 #[repr(C)]
-#[derive(Drop)]
+#[derive(Clone, Copy)]
 pub struct Priced {
     pub length: usize,
     pub header: usize,

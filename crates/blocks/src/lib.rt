@@ -17,14 +17,14 @@ mod numbers;
 mod write;
 
 // What pack answers: the length of the packed file.
-#[derive(Drop)]
+#[derive(Clone, Copy)]
 pub enum PackAnswer {
     Packed(usize),
     Refused(u8),
 }
 
 // What unpack answers: the length of the file.
-#[derive(Drop)]
+#[derive(Clone, Copy)]
 pub enum UnpackAnswer {
     Unpacked(usize),
     Refused(u8),

@@ -1,7 +1,7 @@
 // The layout of a chunk: its first fault, or where its parts stand, counted from the chunk's first byte. And what its header
 // says.
 #[repr(C)]
-#[derive(Drop)]
+#[derive(Clone, Copy)]
 pub struct Layout {
     // the first fault; where it isn't 0, all else is 0 and false
     pub number: u8,
@@ -18,7 +18,7 @@ pub struct Layout {
     pub multichunk: bool,
 }
 
-#[derive(Drop)]
+#[derive(Clone, Copy)]
 pub struct Head {
     // the first fault; where it isn't 0, all else is 0
     pub number: u8,

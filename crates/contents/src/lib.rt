@@ -9,7 +9,7 @@ ghost use Rattle.contents.specs.Outcome.{contents_outcome, part_of};
 
 // A part of the file, by its place and its bytes; beside a number that is not 0 both are 0.
 #[repr(C)]
-#[derive(Drop)]
+#[derive(Clone, Copy)]
 pub struct Part {
     pub place: usize,
     pub bytes: usize,

@@ -26,7 +26,7 @@ fn short_id(id: &[u8]) -> [u8; 10]
     ensures { result ≡ padded 10 id.now }
 {
     let mut short = [b' '; ID];
-    bytes::copy(id, &mut short);
+    short[..id.len()].copy_from_slice(id);
     short
 }
 

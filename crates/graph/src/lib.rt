@@ -59,7 +59,7 @@ fn listed(table: &[u8], n: usize, row: usize, marks: &mut [u8]) -> bool
 }
 
 // fine: no circle is reached from the row. Then it and the rows that it reaches have the mark DONE, and no others.
-#[derive(Drop)]
+#[derive(Clone, Copy)]
 pub struct Marks {
     pub fine: bool,
     pub marks: [u8; ROWS],

@@ -14,14 +14,14 @@ pub const VALUE: u8 = 1;
 
 pub const END: u8 = 2;
 
-#[derive(Drop)]
+#[derive(Clone, Copy)]
 pub struct Reader<'a> {
     pub file: &'a [u8],
     pub at: usize,
 }
 
 // What was read: its fault, 0 where it has none, and the position behind it.
-#[derive(Drop)]
+#[derive(Clone, Copy)]
 pub struct Taken {
     pub fault: u8,
     pub at: usize,

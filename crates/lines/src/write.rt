@@ -48,8 +48,9 @@ pub fn put_bytes(buffer: &mut [u8], at: usize, s: &[u8]) -> usize
     requires { at + length s.now ≤ length buffer.old }
     ensures { (result ≡ at + length s.now) × (buffer.new ≡ placed at s.now buffer.old) }
 {
-    let n = bytes::copy(s, &mut buffer[at..]);
-    at + n
+    let end = at + s.len();
+    buffer[at..end].copy_from_slice(s);
+    end
 }
 
 // A number in n digits.

@@ -15,7 +15,7 @@ ghost use Rattle.listing_text.specs.Text.{listing_answer, listing_outcome};
 use metafile::{LIMIT, refusals};
 use read::local;
 
-#[derive(Drop)]
+#[derive(Clone, Copy)]
 pub enum ListingAnswer {
     // the length of the text
     Written(usize),

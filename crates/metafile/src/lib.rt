@@ -18,7 +18,7 @@ pub const LIMIT: usize = 1073741824;
 
 // What reading a date gives, or a serial number by its date: the day, by year, month and day, or that there is none. The day's
 // number is fields::day_number.
-#[derive(Drop)]
+#[derive(Clone, Copy)]
 pub enum Day {
     On(u16, u8, u8),
     NoDate,
@@ -26,7 +26,7 @@ pub enum Day {
 
 // One chunk of the table. Places are counted from the file's first byte.
 #[repr(C)]
-#[derive(Drop)]
+#[derive(Clone, Copy)]
 pub struct Row {
     pub serial: [u8; 38],
     pub place: usize,
@@ -50,7 +50,7 @@ pub struct Row {
 }
 
 // What begin answers: the number of bytes written.
-#[derive(Drop)]
+#[derive(Clone, Copy)]
 pub enum BeginAnswer {
     Written(usize),
     Refused(u8),
@@ -58,7 +58,7 @@ pub enum BeginAnswer {
 
 // What read answers beside the rows. It has all four values for every number.
 #[repr(C)]
-#[derive(Drop)]
+#[derive(Clone, Copy)]
 pub struct ReadAnswer {
     pub count: usize,
     pub stop: usize,
@@ -68,7 +68,7 @@ pub struct ReadAnswer {
 }
 
 // What parent answers: the row, and whether the sub-formats agree.
-#[derive(Drop)]
+#[derive(Clone, Copy)]
 pub enum ParentAnswer {
     Found(usize, bool),
     Missing,
@@ -76,42 +76,42 @@ pub enum ParentAnswer {
 }
 
 // What append answers: the three ends.
-#[derive(Drop)]
+#[derive(Clone, Copy)]
 pub enum AppendAnswer {
     Ends(usize, usize, usize),
     Refused(u8),
 }
 
 // What gather answers: the length of the joined data.
-#[derive(Drop)]
+#[derive(Clone, Copy)]
 pub enum GatherAnswer {
     Joined(usize),
     Refused(u8),
 }
 
 // What the writer of relations answers: the length of the text.
-#[derive(Drop)]
+#[derive(Clone, Copy)]
 pub enum RelationsWriteAnswer {
     Written(usize),
     Refused(u8),
 }
 
 // What the check of relations answers: the number of verdicts.
-#[derive(Drop)]
+#[derive(Clone, Copy)]
 pub enum RelationsCheckAnswer {
     Checked(usize),
     Refused(u8),
 }
 
 // What the check of relations answers where no row is named: the number of verdicts, and the row.
-#[derive(Drop)]
+#[derive(Clone, Copy)]
 pub enum RelationsLatestAnswer {
     Checked(usize, usize),
     Refused(u8),
 }
 
 // What ancestors answers: how many rows are listed, and how many dependencies name no row.
-#[derive(Drop)]
+#[derive(Clone, Copy)]
 pub enum AncestorsAnswer {
     Reached(usize, usize),
     Refused(u8),
@@ -119,14 +119,14 @@ pub enum AncestorsAnswer {
 
 // A text as it was given: its first bytes, and its whole length, which may be more than the field is wide.
 #[repr(C)]
-#[derive(Drop)]
+#[derive(Clone, Copy)]
 pub struct Text256 {
     pub bytes: [u8; 256],
     pub given: usize,
 }
 
 #[repr(C)]
-#[derive(Drop)]
+#[derive(Clone, Copy)]
 pub struct Text32 {
     pub bytes: [u8; 32],
     pub given: usize,
@@ -135,7 +135,7 @@ pub struct Text32 {
 // The fields of a chunk to append. A listed word comes as its three bytes; the serial number beside it is used only
 // after ALT, SLV and MAS.
 #[repr(C)]
-#[derive(Drop)]
+#[derive(Clone, Copy)]
 pub struct Description {
     pub subformat: Text256,
     pub generic: [u8; 3],

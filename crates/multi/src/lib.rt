@@ -22,7 +22,7 @@ use table::numbers;
 
 // The first fault, and the number of bytes where there is none.
 #[repr(C)]
-#[derive(Drop)]
+#[derive(Clone, Copy)]
 pub struct Part {
     pub number: u8,
     pub bytes: usize,

@@ -10,7 +10,7 @@ use metafile::{ReadAnswer, Row};
 // table_rows of specs/Table
 pub const ROWS: usize = 76;
 
-#[derive(Drop)]
+#[derive(Clone, Copy)]
 pub struct Table {
     pub rows: [Row; ROWS],
     pub answer: ReadAnswer,

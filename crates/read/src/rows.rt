@@ -11,7 +11,7 @@ use metafile::Row;
 use table::places::MARK;
 use walk::{Cursor, Header};
 
-#[derive(Drop)]
+#[derive(Clone, Copy)]
 pub struct Next {
     // there is another row, and this is it; else the reading stops
     pub go: bool,

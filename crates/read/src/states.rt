@@ -10,7 +10,7 @@ use crate::rows::row;
 use metafile::{LIMIT, ReadAnswer, Row, refusals};
 use walk::Cursor;
 
-#[derive(Drop)]
+#[derive(Clone, Copy)]
 pub struct State {
     // there is a row to write
     pub go: bool,

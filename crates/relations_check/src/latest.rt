@@ -11,7 +11,7 @@ use table::places;
 use walk::Cursor;
 
 // The relations row that holds among the rows so far.
-#[derive(Drop)]
+#[derive(Clone, Copy)]
 pub struct Latest {
     // at that row; it doesn't go where there is none
     pub own: Cursor,
@@ -46,7 +46,7 @@ fn later(file: &[u8], c: Cursor, best: Latest) -> Latest
 }
 
 // Behind the last row, and at the relations row that holds.
-#[derive(Drop)]
+#[derive(Clone, Copy)]
 pub struct Choice {
     pub end: Cursor,
     pub own: Cursor,

@@ -10,7 +10,7 @@ ghost use Rattle.relations_check.specs.Window.{WindowOf, Filled};
 
 use walk::Header;
 
-#[derive(Drop)]
+#[derive(Clone, Copy)]
 pub struct Window {
     // the first row, and how many
     pub from: usize,

@@ -11,7 +11,7 @@ use relation_line::parts::COMPARED;
 use table::places;
 use walk::Header;
 
-#[derive(Drop)]
+#[derive(Clone, Copy)]
 pub struct Found {
     pub header: Header,
     // rows of the file

@@ -9,7 +9,7 @@ use crate::{find_byte, same_bytes};
 
 // The first place of a mark, and how many places were tried.
 #[repr(C)]
-#[derive(Drop)]
+#[derive(Clone, Copy)]
 pub struct Found {
     pub place: usize,
     pub tried: usize,

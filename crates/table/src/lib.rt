@@ -14,7 +14,7 @@ ghost use Rattle.table.specs.Codes.{code_no, line_no};
 
 use metafile::refusals;
 
-#[derive(Drop)]
+#[derive(Clone, Copy)]
 pub enum Kind {
     Number,
     Checksum,
@@ -29,7 +29,7 @@ pub enum Kind {
     Strategy,
 }
 
-#[derive(Drop)]
+#[derive(Clone, Copy)]
 pub struct Line {
     // the label, with spaces behind it up to the longest one's length
     pub label: [u8; 38],

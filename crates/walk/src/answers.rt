@@ -2,7 +2,7 @@
 use chunk::Layout;
 
 // The file header; where the number is not 0, all else is 0 and false.
-#[derive(Drop)]
+#[derive(Clone, Copy)]
 pub struct Header {
     pub number: u8,
     pub end: usize,
@@ -13,7 +13,7 @@ pub struct Header {
     pub good: bool,
 }
 
-#[derive(Drop)]
+#[derive(Clone, Copy)]
 pub struct Step {
     // the next row is there, and this is its chunk; else the reading stops with the number
     pub go: bool,
@@ -22,7 +22,7 @@ pub struct Step {
 }
 
 // Rows that are known to be there.
-#[derive(Drop)]
+#[derive(Clone, Copy)]
 pub struct Ahead {
     pub rows: usize,
     // where the last of them begins; 0 where there is none
@@ -30,14 +30,14 @@ pub struct Ahead {
 }
 
 // A row by its serial number; what row and place are where there is none, each function says.
-#[derive(Drop)]
+#[derive(Clone, Copy)]
 pub struct Numbered {
     pub there: bool,
     pub row: usize,
     pub place: usize,
 }
 
-#[derive(Drop)]
+#[derive(Clone, Copy)]
 pub struct Survey {
     pub count: usize,
     pub stop: usize,

@@ -14,7 +14,7 @@ use chunk::Layout;
 // Where all rows may be asked for: behind every row.
 pub const ALL: usize = 18446744073709551615;
 
-#[derive(Drop)]
+#[derive(Clone, Copy)]
 pub struct Cursor {
     // the cursor stands at a row; else the reading stops with the number
     pub go: bool,

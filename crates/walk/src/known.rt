@@ -13,7 +13,7 @@ use crate::rows::{known_chunk, serial_place};
 use chunk::Layout;
 
 // Where the parts of a row's chunk stand in the file.
-#[derive(Drop)]
+#[derive(Clone, Copy)]
 pub struct Places {
     pub serial: usize,
     // dependency count

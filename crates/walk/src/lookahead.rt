@@ -26,7 +26,7 @@ const ROOM: usize = 40000;
 // Behind every place in a file.
 const NONE: usize = 4294967295;
 
-#[derive(Drop)]
+#[derive(Clone, Copy)]
 pub struct Chunks {
     // chunks looked at, rows before included
     pub looked: usize,
