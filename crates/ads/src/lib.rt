@@ -6,6 +6,8 @@
 //     calls        begin, read and whether it is clean, parent, append, contents, gather, ancestors, relations, the listing, the price,
 //                  pack and unpack
 //     description  the description of a chunk to append
+#![tactic(auto)]
+
 mod answers;
 mod calls;
 mod description;

@@ -1,2 +1,3 @@
 // What the definitions of `ancestors` in metafile say, proved over them: which rows are listed, when there is a circle, and
 // which number is answered. Proofs only, in proofs/.
+#![tactic(auto)]

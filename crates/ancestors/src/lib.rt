@@ -6,6 +6,8 @@
 //     rows   the rows of a file, noted in one reading
 //     steps  which row's dependencies name which row, and which name none
 //     lists  the rows that are marked: counted, listed, their missing parents added up
+#![tactic(auto)]
+
 ghost use Rattle.std.specs.Prelude.{◌≡◌};
 ghost use Rattle.metafile.specs.Answers.{outcome, ancestors_answer};
 ghost use Rattle.metafile.specs.Ancestors.{ancestors};

@@ -5,6 +5,8 @@
 // their values, for 13 and for the lines of parents, on search for the mark.
 //     tests    "Append tests 11, 12, 6, 17, 13, 9, 15, 16, 18"
 //     write    the three writes
+#![tactic(auto)]
+
 mod tests;
 mod write;
 

@@ -3,6 +3,8 @@
 // the tests in their order, `put_header` writes what none of them refuses. The contract of `begin` equates answer and
 // buffer, refusals included, with begin of the crate metafile (specs/Begin). The header's lines are judged and written by
 // the crate lines, from the table of lines; the values of the integrity data are put together by the crate writer.
+#![tactic(auto)]
+
 ghost use Rattle.std.specs.Prelude.{◌≡◌, true, [], ◌∷◌, ◌++◌, ◌≤◌, length};
 ghost use Rattle.metafile.specs.Bytes.{same};
 ghost use Rattle.metafile.specs.Lines.{NUL};

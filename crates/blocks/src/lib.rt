@@ -5,6 +5,8 @@
 //     write     blocks put into a buffer
 //     judge     the first wrong block
 //     extract   the data taken out of blocks that are all right
+#![tactic(auto)]
+
 ghost use Rattle.std.specs.Prelude.{◌≡◌, [], ◌∷◌};
 ghost use Rattle.metafile.specs.Answers.{over_limit, outcome};
 ghost use Rattle.blocks.specs.Blocks.{pack, unpack, pack_answer, unpack_answer};

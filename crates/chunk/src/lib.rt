@@ -8,6 +8,8 @@
 //     closing    mark, integrity data, mark; the test of their sum
 //     rows       serial number, offset, ending and row of a whole chunk
 // It rests on lines for the runs over the table of lines, on fields for values, on search and on sums.
+#![tactic(auto)]
+
 mod closing;
 mod contents;
 mod counts;

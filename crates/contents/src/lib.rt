@@ -3,6 +3,8 @@
 // that of a reading with rows enough, which the crate walk goes through without a table; no sum is taken. The contract
 // cites contents of the crate metafile (specs/Calls), and specs/Outcome; it rests on the laws of the row of a number in
 // walk (proofs/Named).
+#![tactic(auto)]
+
 ghost use Rattle.std.specs.Prelude.{◌≡◌};
 ghost use Rattle.metafile.specs.Calls.{contents};
 ghost use Rattle.contents.specs.Outcome.{contents_outcome, part_of};

@@ -1,4 +1,6 @@
 // Writes the contents that row 0 of the file on standard input names. Its stored input is the paper's example.
+#![tactic(auto)]
+
 use libc::{STDIN_FILENO, STDOUT_FILENO};
 
 fn main() {

@@ -3,3 +3,4 @@
 // proofs/Theorem.antt has `demand3`; proofs/RoundTrip.antt has `round_trip`; proofs/Counted.antt has `counted`, which
 // metafile/proofs/Cuts.antt tries on two cuts. They rest on the laws in laws, chunk_laws and written_laws.
 // examples/proofs/Without.antt shows that `demand3` needs tests 15 and 16.
+#![tactic(auto)]

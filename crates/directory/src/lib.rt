@@ -4,6 +4,8 @@
 // stands from the slot of its serial number's hash on, with no empty slot before it. An entry that finds no slot is not
 // added. The contracts cite specs/Directory and specs/Inner; the laws are in proofs/Laws. Rests on index for the hash and
 // the search among slots, on search for the comparison. None of it is a public call.
+#![tactic(auto)]
+
 ghost use Rattle.std.specs.Prelude.{◌≡◌, ◌+◌, ◌≤◌, ◌<◌, length};
 ghost use Rattle.metafile.specs.Bytes.{part};
 ghost use Rattle.metafile.specs.Fields.{same_serial};

@@ -9,6 +9,8 @@
 //     dates     dates: read; the number of a day
 //     offsets   time offsets and their values
 //     serials   serial numbers: read, compared, taken out of a slice
+#![tactic(auto)]
+
 mod dates;
 mod numbers;
 mod offsets;

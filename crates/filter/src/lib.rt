@@ -1,6 +1,8 @@
 // A filter of the hashes of serial numbers, for rows that an index has no room for: where a bit of a hash isn't set, the hash
 // was never set; where all are, nothing is said, as others may have set them. The filter is the entries 1 to 196613 of an
 // array that the caller lends. The contracts cite specs/Filter; the laws are in proofs/Laws. None of it is a public call.
+#![tactic(auto)]
+
 ghost use Rattle.std.specs.Prelude.{◌≡◌, ◌<◌, ◌≤◌, length};
 ghost use Rattle.filter.specs.Filter.{first_of, second_of, entry_of, bits_of, set_at, with_bits, covered_by, covering};
 

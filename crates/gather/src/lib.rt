@@ -3,6 +3,8 @@
 // table; its contents are gone through by the crate multi; no chunk's sum is taken. On a refusal nothing is written. The contract
 // cites gather and gather_answer of the crate metafile (specs/Calls, Answers); it rests on the laws of the row of a number
 // in walk (proofs/Named).
+#![tactic(auto)]
+
 ghost use Rattle.std.specs.Prelude.{◌≡◌, [], ◌∷◌, ◌≤◌, length};
 ghost use Rattle.metafile.specs.Fields.{padded};
 ghost use Rattle.metafile.specs.Multi.{multi_fault};

@@ -3,6 +3,8 @@
 // names: two functions that call each other. They end because the number of unvisited rows falls. A row is unvisited (0), on
 // the path that is being followed, or done. The contracts cite specs/Graph; the laws are in proofs/Laws. None of it is a
 // public call.
+#![tactic(auto)]
+
 ghost use Rattle.std.specs.Prelude.{true, false, ◌≡◌, ◌≤◌, ◌<◌, length};
 ghost use Rattle.metafile.specs.Closure.{circular_from};
 ghost use Rattle.graph.specs.Graph.{goes, StandingGiven, RowDone, ListGiven, ListDone, Reached};

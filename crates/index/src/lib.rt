@@ -3,6 +3,8 @@
 // of its serial number on. Where an empty slot comes before the tag, no serial number met has this slot and tag, so the
 // serial number is new; where the tag stands, nothing is said of it, as two serial numbers may share both. Slot and tag are
 // made of one hash. The contracts cite specs/Index; the laws of the index are in proofs/Laws. None of it is a public call.
+#![tactic(auto)]
+
 ghost use Rattle.std.specs.Prelude.{◌≡◌, ◌+◌, ◌≤◌, ◌<◌, length};
 ghost use Rattle.index.specs.Index.{word_at, hash_of, tag_of, slot_of, first_of, size, near_for};
 

@@ -1,5 +1,7 @@
 // Inner functions for the comparison and the benchmark to call: `rt staticlib kernels`. They are no part of libads.a and
 // not in include/ads.h. Each has the contract of the function that it is thin over.
+#![tactic(auto)]
+
 ghost use Rattle.std.specs.Prelude.{◌≡◌, cond, ◌||◌, eqb, leb, ltb, length};
 ghost use Rattle.metafile.specs.Bytes.{find, sum};
 ghost use Rattle.metafile.specs.Days.{day_read, day_value_of};

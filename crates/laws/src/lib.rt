@@ -1,1 +1,2 @@
 // Laws of the definitions in metafile: proofs only, in proofs/.
+#![tactic(auto)]

@@ -8,6 +8,8 @@
 //     run      the reader's runs: a line up to its LF, a line, lines
 //     stretches  the runs over a chunk's head and its integrity data
 //     write    the writer's runs: values judged, lines, bytes, numbers and the closing put into a buffer
+#![tactic(auto)]
+
 mod judge;
 pub mod reader;
 mod run;

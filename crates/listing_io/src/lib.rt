@@ -1,5 +1,7 @@
 // The listing program's input and output: standard input is read into a local array of one byte more than a file may
 // have, the text is made by the crate listing_text, and written to standard output. Nothing is decided here.
+#![tactic(auto)]
+
 ghost use Rattle.std.specs.Prelude.{◌≡◌};
 ghost use Rattle.listing_io.specs.Length.{length_of};
 

@@ -4,6 +4,8 @@
 //     listed   the lines of the text, put one behind the other
 // The contract cites listing of the crate metafile (specs/Listing) by listing_outcome of specs/Text; the laws are in
 // proofs/Texts (the text by its pieces) and proofs/Answers (the two refusals).
+#![tactic(auto)]
+
 mod listed;
 
 ghost use Rattle.std.specs.Prelude.{◌≡◌, ◌≤◌, length};

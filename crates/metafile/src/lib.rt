@@ -6,6 +6,8 @@
 //     fields_given  the description's methods
 //     refusals      the refusal numbers
 //     rows          the row of no chunk
+#![tactic(auto)]
+
 pub mod clean;
 mod days;
 pub mod endings;

@@ -7,6 +7,8 @@
 //     runs     runs of bytes at a place
 // The contracts cite the definitions of the crate metafile (specs/Multi); specs/Part has what is handed back. Lines are
 // judged by the crate lines, numbers valued by fields, bytes compared by search.
+#![tactic(auto)]
+
 mod gather;
 mod minis;
 mod runs;

@@ -3,6 +3,8 @@
 // table, once: the index of serial numbers up to row k serves the search behind it too. No chunk's sum is taken and
 // nothing is written. The contract cites parent and parent_answer of the crate metafile (specs/Calls, Answers); it rests
 // on the laws of the row of a number in walk (proofs/Named). Distances are those of the table.
+#![tactic(auto)]
+
 ghost use Rattle.std.specs.Prelude.{◌≡◌, ◌+◌, ◌≤◌, length};
 ghost use Rattle.metafile.specs.Bytes.{part, same};
 ghost use Rattle.metafile.specs.Answers.{parent_answer};

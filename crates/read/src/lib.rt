@@ -7,6 +7,8 @@
 //     states   the state of the reading with n rows written
 //     local    a reading into a table of 76 rows, by value
 // The contract cites read of the crate metafile (specs/Calls), the states specs/State; the laws are in proofs/Laws and Turns.
+#![tactic(auto)]
+
 pub mod local;
 mod rows;
 mod states;

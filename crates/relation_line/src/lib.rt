@@ -4,6 +4,8 @@
 //     verdicts   what is said of a line, as numbers
 //     judge      the form of a line, and whether a chunk declares it
 //     write      the heading line, and the line of one dependency
+#![tactic(auto)]
+
 ghost use Rattle.std.specs.Prelude.{◌≡◌, length};
 ghost use Rattle.metafile.specs.Bytes.{same};
 ghost use Rattle.metafile.specs.Relations.{relations_name, heading};

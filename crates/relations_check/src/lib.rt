@@ -8,6 +8,8 @@
 //     latest   the relation chunk that holds
 //     text     the lines of the text: counted, judged
 //     window   rows in a directory
+#![tactic(auto)]
+
 ghost use Rattle.std.specs.Prelude.{◌≡◌, ◌≤◌, length};
 ghost use Rattle.metafile.specs.Answers.{outcome, relations_check_answer, relations_latest_answer};
 ghost use Rattle.metafile.specs.Relations.{relations_check, relations_check_latest};

@@ -5,6 +5,8 @@
 //     find_plain   the reference: every place of the mark's first byte is tried
 //     horspool     the search by shifts, which counts the places that it tries
 // The contracts cite same, starts and find of the crate metafile (specs/Bytes); the laws of the search are in proofs/Laws.
+#![tactic(auto)]
+
 ghost use Rattle.std.specs.Prelude.{◌≡◌, [], ◌∷◌, ◌++◌, min, length};
 ghost use Rattle.metafile.specs.Bytes.{same, starts, find};
 ghost use Rattle.search.specs.Shifts.{is_in};

@@ -3,6 +3,8 @@
 //     byte_sum   the reference, byte by byte; a serial number's check
 //     words      the same sum, eight bytes at a time: chunks and the header
 // Rests on std::num for the additions that wrap.
+#![tactic(auto)]
+
 ghost use Rattle.std.specs.Prelude.{◌≡◌};
 ghost use Rattle.metafile.specs.Bytes.{sum};
 

@@ -3,6 +3,8 @@
 //     rows     the table
 //     numbers  the numbers of its lines, by name
 //     places   the distances of values, summed from it
+#![tactic(auto)]
+
 pub mod numbers;
 pub mod places;
 mod rows;

@@ -6,6 +6,8 @@
 //     put_word         a word
 // The contracts cite decimal of the crate metafile (specs/Listing) by Put of specs/Put; the laws are in proofs/Puts (bytes
 // put behind bytes) and proofs/Decimals (leading zeros).
+#![tactic(auto)]
+
 ghost use Rattle.std.specs.Prelude.{◌≡◌, [], ◌∷◌, ◌++◌, ◌+◌, ◌≤◌, length};
 ghost use Rattle.metafile.specs.Listing.{decimal};
 ghost use Rattle.text.specs.Put.{Put};

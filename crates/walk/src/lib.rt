@@ -16,6 +16,8 @@
 //     known    where the parts of a row stand; the rows once more, behind a reading
 //     walks    the row of a number, the row of a serial number
 //     surveys  one reading for all that append asks of the file
+#![tactic(auto)]
+
 mod answers;
 mod cursor;
 mod earlier;

@@ -5,6 +5,8 @@
 //     marks    the file's mark: without a zero byte or not; copied out
 //     parents  13: rows named as parents
 //     copies   the lines of parents, copied from their chunks
+#![tactic(auto)]
+
 mod copies;
 mod marks;
 mod parents;
