@@ -2,11 +2,12 @@
 // have, the text is made by the crate listing_text, and written to standard output. Nothing is decided here.
 #![tactic(auto)]
 
-ghost use Rattle.std.specs.Prelude.{◌≡◌};
+ghost use Rattle.std.specs.Prelude.{◌≡◌, ◌≤◌, length, IfOk};
 ghost use Rattle.listing_io.specs.Length.{length_of};
 
-use libc::{STDIN_FILENO, STDOUT_FILENO};
 use listing_text::ListingAnswer;
+use std::io;
+use std::io::{Read, Write};
 
 // The bytes of the text; none where there is none.
 fn text_length(answer: ListingAnswer) -> usize
@@ -18,11 +19,26 @@ fn text_length(answer: ListingAnswer) -> usize
     }
 }
 
-pub fn run() {
+// Reads until the buffer is full or the input ends, and answers how many bytes there are.
+pub fn read_full<R: Read>(reader: &mut R, buffer: &mut [u8]) -> io::Result<usize>
+    ensures { IfOk result (λ n. n ≤ length buffer.new) }
+{
+    let mut got = 0usize;
+    for _ in 0..u64::MAX {
+        let n = reader.read(&mut buffer[got..])?;
+        if n == 0 {
+            break;
+        }
+        got += n;
+    }
+    Ok(got)
+}
+
+pub fn run<R: Input + Print>(rt: &R) -> io::Result<()> {
     let mut input = [0u8; 65537];
-    let got = io::read_full(STDIN_FILENO, &mut input);
+    let got = read_full(&mut rt.reader(), &mut input)?;
     let mut text = [0u8; 10240];
     let answer = listing_text::listing(&input[..got], &mut text);
     let n = text_length(answer);
-    io::write_all(STDOUT_FILENO, &text[..n]);
+    io::writer(rt).write_all(&text[..n])
 }

@@ -1,0 +1,22 @@
+-- `ads::calls::ads_listing` meets its contract: the struct says what the call's own answer says. Assumes nothing.
+use mathlib.Core.Path.{sym, ap, ◌∙◌}
+use Rattle.listing_text.specs.Text.{listing_answer}
+use Rattle.metafile.specs.Answers.{outcome}
+use Rattle.ads.proofs.Structs.{listing-numbered, written-done, written-refused}
+use Rattle.ads.proofs.calls.ads_listing.Goals as goal
+
+pub returns-in-Written : goal.returns-in-Written
+unfolding listing_answer
+returns-in-Written c =
+    let call = c.listing-answer in
+    let after = call.new.buffer in
+    written-done after _ c.in-Written.length (ap (λ a. outcome (listing_answer a) after) (sym c.in-Written.is) ∙ call.ensures)
+
+pub returns-in-Refused : goal.returns-in-Refused
+unfolding listing_answer
+returns-in-Refused c =
+    let call = c.listing-answer in
+    let after = call.new.buffer in
+    let n = c.in-Refused.number in
+    let e = ap (λ a. outcome (listing_answer a) after) (sym c.in-Refused.is) ∙ call.ensures in
+    written-refused after _ n (listing-numbered _ _ n after e) e

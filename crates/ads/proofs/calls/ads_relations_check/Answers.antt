@@ -1,0 +1,21 @@
+-- `ads::calls::ads_relations_check` meets its contract: the struct says what the call's own answer says. Assumes nothing.
+use mathlib.Core.Path.{sym, ap, ◌∙◌}
+use Rattle.metafile.specs.Answers.{outcome, relations_check_answer}
+use Rattle.ads.proofs.Structs.{relations-check-numbered, counted-done, counted-refused}
+use Rattle.ads.proofs.calls.ads_relations_check.Goals as goal
+
+pub returns-in-Checked : goal.returns-in-Checked
+unfolding relations_check_answer
+returns-in-Checked c =
+    let call = c.check-answer in
+    let after = call.new.verdicts in
+    counted-done after _ c.in-Checked.count (ap (λ a. outcome (relations_check_answer a) after) (sym c.in-Checked.is) ∙ call.ensures)
+
+pub returns-in-Refused : goal.returns-in-Refused
+unfolding relations_check_answer
+returns-in-Refused c =
+    let call = c.check-answer in
+    let after = call.new.verdicts in
+    let n = c.in-Refused.number in
+    let e = ap (λ a. outcome (relations_check_answer a) after) (sym c.in-Refused.is) ∙ call.ensures in
+    counted-refused after _ n (relations-check-numbered _ _ _ n after e) e

@@ -1,0 +1,45 @@
+-- `ancestors::lists::missing` meets its contract. Assumes nothing.
+use Prim.Native.Nat.{◌-◌}
+use mathlib.Core.Logic.{⊎_elim}
+use native.Mathlib.Omega.{arith}
+use borrow.Author.Tests.{eq-eqb, ne_eqb}
+use Rattle.ancestors.specs.Lists.{is_marked}
+use Rattle.ancestors.proofs.Marked.{adding-none, adding-in, adding-out, added}
+use Rattle.ancestors.proofs.lists.missing.Goals as goal
+
+pub loop-i-init : goal.loop-i-init
+loop-i-init c = adding-none _ _ _
+
+pub bounds-marks-i : goal.bounds-marks-i
+bounds-marks-i c = omega arith
+
+pub offset_bounds-counts-i : goal.offset_bounds-counts-i
+offset_bounds-counts-i c = omega arith
+
+pub bounds-counts-i : goal.bounds-counts-i
+bounds-counts-i c = omega arith
+
+pub overflow_add-sum : goal.overflow_add-sum
+overflow_add-sum c =
+    let t = c in
+    let s = t.requires.1 in
+    omega (arith, t.loop-i.invariant.most, s.few, s.small _ t.loop-i-test.true)
+
+pub overflow_add-i : goal.overflow_add-i
+overflow_add-i c = omega arith
+
+pub loop-i-smaller : goal.loop-i-smaller
+loop-i-smaller c = omega arith
+
+pub loop-i-preserved : goal.loop-i-preserved
+unfolding is_marked
+loop-i-preserved c =
+    let t = c in
+    let w = t.loop-i.invariant in
+    ⊎_elim
+    (λ v. rw v.2 (adding-in _ _ w t.loop-i-test.true t.requires.1 (eq-eqb _ _ v.0.taken)))
+    (λ v. rw v.1 (adding-out _ _ w t.loop-i-test.true (ne_eqb _ _ v.0.left)))
+    c.if-marks-i-eq-DONE.branch
+
+pub returns : goal.returns
+returns c = added _ _ c.loop-i.invariant c.loop-i-test.false

@@ -1,0 +1,14 @@
+-- `ancestors::rows::note_rows` meets its contract. Assumes nothing.
+use Prim.Native.Nat.{◌-◌}
+use lib.ListN.{length}
+use Rattle.metafile.specs.Reading.{rows_of}
+use Rattle.walk.specs.Cursor.{At}
+use Rattle.ancestors.specs.Noted.{Noted}
+use Rattle.ancestors.proofs.rows.note_rows.Given as goal
+
+abbrev pub invariant-loop-c : goal.invariant-loop-c
+invariant-loop-c l =
+    At l.file l.c l.index × Noted l.file l.c.row l.places l.serials l.counts
+
+abbrev pub decreases-loop-c : goal.decreases-loop-c
+decreases-loop-c l = length (rows_of l.file) - l.c.row

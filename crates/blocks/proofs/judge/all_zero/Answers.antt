@@ -1,0 +1,20 @@
+-- `blocks::judge::all_zero` meets its contract. The loop's invariant: the bytes before `i` don't decide. The measure is what
+-- is left of the length. Assumes nothing.
+use Rattle.std.proofs.Common.{◌-◌, arith}
+use Rattle.blocks.proofs.Places.{spare-other, spare-next, spare-end}
+use Rattle.blocks.proofs.judge.all_zero.Goals as goal
+
+pub loop-i-preserved : goal.loop-i-preserved
+loop-i-preserved c =
+    let l = c in
+    (omega arith, spare-next l.args.s.now l.loop-i.i l.loop-i.invariant.1 (omega arith) c.if-s-i-ne0.false)
+
+pub returns-then-s-i-ne0 : goal.returns-then-s-i-ne0
+returns-then-s-i-ne0 c =
+    let l = c in
+    spare-other l.args.s.now l.loop-i.i l.loop-i.invariant.1 (omega arith) c.if-s-i-ne0.true
+
+pub returns : goal.returns
+returns c =
+    let l = c in
+    spare-end l.args.s.now l.loop-i.i l.loop-i.invariant.1 (omega arith)

@@ -1,0 +1,26 @@
+-- `blocks::write::put_zeros` meets its contract. The loop's invariant: `k` zeros are put. The measure is what is left of them.
+-- Assumes nothing.
+use Rattle.std.proofs.Common.{◌≡◌, ◌+◌, ◌-◌, arith}
+use Rattle.text.proofs.Puts.{put-none, put-length, put_is, put-behind, put_byte}
+use Rattle.blocks.proofs.Places.{zero_more}
+use Rattle.blocks.proofs.write.put_zeros.Goals as goal
+
+pub loop-k-init : goal.loop-k-init
+loop-k-init c =
+    let none : c.args.at + 0 ≡ c.args.at = omega arith in
+    (omega arith, rw none (put-none c.args.at c.args.buffer.now (omega arith)))
+
+pub loop-k-preserved : goal.loop-k-preserved
+loop-k-preserved c =
+    let l = c in
+    let at = l.args.at in
+    let p = l.loop-k.invariant.1 in
+    let long = put-length p in
+    let end : at + (l.loop-k.k + 1) ≡ at + l.loop-k.k + 1 = omega arith in
+    (omega arith, rw end (put_is (zero_more l.loop-k.k) (put-behind p (put_byte (at + l.loop-k.k) 0 l.loop-k.buffer (omega arith)))))
+
+pub returns : goal.returns
+returns c =
+    let l = c in
+    let all : l.loop-k.k ≡ l.args.n = omega arith in
+    rw (← all) l.loop-k.invariant.1

@@ -1,0 +1,14 @@
+-- `graph::reach` meets its contract. Assumes nothing.
+use Rattle.graph.proofs.Laws.{begun, answered}
+use Rattle.graph.proofs.reach.Goals as goal
+
+pub standing-fine-requires : goal.standing-fine-requires
+standing-fine-requires c =
+    let p = c.requires in
+    begun _ _ _ p.0 p.1.0 p.1.1
+
+pub returns : goal.returns
+returns c =
+    let p = c.requires in
+    let answer = c.standing-fine.ensures in
+    answered p.1.0 p.1.1 _ answer.0 answer.1

@@ -1,0 +1,9 @@
+-- `index::word` meets its contract. Assumes nothing.
+use mathlib.Core.Path.{◌∙◌}
+use Rattle.index.proofs.Loops.{word-is}
+use Rattle.index.proofs.word.Goals as goal
+
+pub returns : goal.returns
+returns c =
+    let k = c in
+    (c.half_word.ensures.0 ∙ word-is k.args.s.now k.args.at, c.half_word.ensures.1)

@@ -1,0 +1,22 @@
+-- `lines::write::put_number` meets its contract. The loop's invariant: the number is put once the digits left are put before
+-- the place reached. The measure: the digits left. Assumes nothing.
+use mathlib.Core.Path.{refl, sym, ◌∙◌}
+use lib.ListN.{length-set}
+use Rattle.lines.proofs.Puts.{digit-put, digits-none}
+use native.Mathlib.Omega.{arith}
+use Rattle.lines.proofs.write.put_number.Goals as goal
+
+pub loop-k-init : goal.loop-k-init
+loop-k-init c = (omega arith, refl, refl)
+
+pub loop-k-preserved : goal.loop-k-preserved
+loop-k-preserved c =
+    let at = c.args.at in
+    let loop = c.loop-k in
+    (omega arith, simp length-set loop.invariant.1, loop.invariant.2 ∙ digit-put at loop.k loop.rest loop.buffer (omega arith) (omega arith))
+
+pub shape_of-buffer : goal.shape_of-buffer
+shape_of-buffer c = c.loop-k.invariant.1
+
+pub returns : goal.returns
+returns c = (refl, sym (c.loop-k.invariant.2 ∙ digits-none c.args.at c.loop-k.k c.loop-k.rest c.loop-k.buffer (omega arith)))

@@ -1,0 +1,48 @@
+-- `relations_check::latest::choose` meets its contract. Assumes nothing.
+use Prim.Native.Nat.{◌-◌}
+use mathlib.Core.Path.{refl, sym, ap, ◌∙◌}
+use native.Mathlib.Omega.{arith}
+use Rattle.walk.specs.declared.cursor.Cursor.{Cursor}
+use Rattle.walk.specs.Cursor.{cursor_none}
+use Rattle.walk.proofs.Index.{index-long}
+use Rattle.walk.proofs.Cursors.{there}
+use Rattle.walk.proofs.Places.{ended}
+use Rattle.relations_check.proofs.Choosing.{holding-none, chosen_is}
+use Rattle.relations_check.proofs.latest.choose.Goals as goal
+
+pub loop-c-init : goal.loop-c-init
+unfolding cursor_none
+loop-c-init c =
+    let k = c in
+    (k.requires.0, rw k.requires.1.0 (holding-none k.args.file.now _ (ap (λ (x : Cursor). x.go) c.none-none.ensures) refl))
+
+pub later-best-requires : goal.later-best-requires
+later-best-requires c =
+    let l = c in
+    let w = l.loop-c.invariant in
+    (record { is = w.0.is; goes = c.loop-c-test.true; small = l.requires.1.1 }, w.1)
+
+pub next-c-requires : goal.next-c-requires
+next-c-requires c = let i = c in (i.loop-c.invariant.0, i.loop-c-test.true)
+
+pub loop-c-smaller : goal.loop-c-smaller
+loop-c-smaller c =
+    let n = c in
+    let i = n in
+    omega (arith, (there i.loop-c.invariant.0 i.loop-c-test.true).turn.row, n.next-c.ensures.1)
+
+pub loop-c-preserved : goal.loop-c-preserved
+loop-c-preserved c =
+    let n = c in
+    (n.next-c.ensures.0, rw n.next-c.ensures.1 n.later-best.ensures)
+
+pub shape_of-index : goal.shape_of-index
+shape_of-index c =
+    let l = c in
+    index-long l.loop-c.invariant.0.indexed ∙ sym (index-long l.requires.0.indexed)
+
+pub returns : goal.returns
+returns c =
+    let a = c in
+    let w = a.loop-c.invariant in
+    (chosen_is _ _ _ w.1 _ (ended w.0 a.loop-c-test.false) refl, w.0.indexed.long)

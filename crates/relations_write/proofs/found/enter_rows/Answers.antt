@@ -1,0 +1,95 @@
+-- `relations_write::found::enter_rows` meets its contract. The loop's invariant: the n entries are the relations rows before row
+-- k, which begins at `at`. Assumes nothing.
+use Prim.Native.Nat.{◌-◌, ◌≤◌}
+use mathlib.Core.Logic.{⊎_elim}
+use mathlib.Core.Path.{◌≡◌, sym, ap, ◌∙◌}
+use native.Mathlib.Omega.{arith}
+use lib.ListN.{length}
+use Rattle.metafile.specs.Calls.{chunk_of}
+use Rattle.metafile.specs.Relations.{is_relations}
+use Rattle.relations_write.proofs.Finds.{row-chunk, held_none, held-other, held_kept, held_more}
+use Rattle.relations_write.proofs.found.enter_rows.Goals as goal
+use Rattle.relations_write.proofs.found.enter_rows.Goals.{After-is_relations}
+
+pub loop-k-init : goal.loop-k-init
+loop-k-init c =
+    let k = c in
+    (k.requires.1.0, omega arith, held_none k.args.file.now k.args.d.now k.requires.1.1.1)
+
+pub row_at-row-requires : goal.row_at-row-requires
+row_at-row-requires c =
+    (c.loop-k.invariant.0 (omega (arith, c.loop-k-test.true)), omega (arith, c.loop-k-test.true, c.requires.0))
+
+pub is_relations-requires : goal.is_relations-requires
+is_relations-requires c =
+    let w = c.row_at-row.ensures in
+    omega (arith, w.dependencies-inside, w.end-inside)
+
+-- row k is a relations row or not
+row_is : (c : After-is_relations)
+    → c.is_relations.result
+    ≡ is_relations (chunk_of c.args.file.now c.loop-k.k)
+row_is c = c.is_relations.ensures ∙ ap is_relations (row-chunk _ _ _ _ _ c.row_at-row.ensures)
+
+pub add-more-requires : goal.add-more-requires
+add-more-requires c =
+    let r = c in
+    let w = r.row_at-row.ensures in
+    let inside : r.loop-k.at ≤ length r.args.file.now =
+    omega (arith, w.dependencies-inside, w.end-inside) in
+    (r.loop-k.invariant.2.holds, (w.serial-inside, (inside, r.pre.1.1.0)))
+
+pub shape_of-d-then-more-n : goal.shape_of-d-then-more-n
+shape_of-d-then-more-n c =
+    let a = c in
+    let k = a in
+    a.add-more.ensures.holds.long ∙ sym k.pre.1.1.1.long
+
+pub returns-then-more-n : goal.returns-then-more-n
+returns-then-more-n c =
+    let a = c in
+    let l = a in
+    let k = l in
+    let inv = l.loop-k.invariant in
+    record {
+      rows_are = k.pre.0;
+      begun = k.pre.1.0;
+      behind = inv.0;
+      few = inv.1;
+      held = held_kept _ _ _ _ inv.2 _ _ _ _ a.add-more.ensures c.if-more-n.true;
+      small = k.pre.1.1.0;
+    }
+
+pub loop-k-preserved : goal.loop-k-preserved
+loop-k-preserved c =
+    let i = c in
+    let l = i in
+    let w = i.row_at-row.ensures in
+    let inv = l.loop-k.invariant in
+    let is = sym (row_is (goal.at.loop-k-preserved c).After-is_relations) in (
+      λ z. w.next,
+      omega (arith, l.loop-k-test.true),
+      ⊎_elim
+          (λ t. rw (t.6, t.7)
+          (held_more _ _ _ _ inv.2 _ _ _ _ t.2.ensures t.5.left w.serial-is (is ∙ t.0.taken)))
+          (λ t. rw (t.1, t.2) (held-other _ _ _ _ inv.2 (is ∙ t.0.left)))
+          c.if-is_relations.branch,
+    )
+
+pub shape_of-d : goal.shape_of-d
+shape_of-d c =
+    let k = c in
+    c.loop-k.invariant.2.holds.long ∙ sym k.requires.1.1.1.long
+
+pub returns : goal.returns
+returns c =
+    let k = c in
+    let inv = c.loop-k.invariant in
+    record {
+      rows_are = k.requires.0;
+      begun = k.requires.1.0;
+      behind = inv.0;
+      few = inv.1;
+      held = inv.2;
+      small = k.requires.1.1.0;
+    }

@@ -1,0 +1,65 @@
+-- `relations_write::rows::count` meets its contract. The loop's invariant: the rows before row k, which begins at `at`, have
+-- these lines, each with 344 bytes of its own before that place. Assumes nothing.
+use Prim.Native.Nat.{◌+◌, ◌-◌, ◌*◌, ◌≤◌}
+use mathlib.Core.Path.{◌≡◌, refl, ap, ◌∙◌}
+use native.Mathlib.Omega.{arith}
+use lib.ListN.{length, drop}
+use Rattle.metafile.specs.Reading.{rows_of}
+use Rattle.metafile.specs.Below.{join_below}
+use Rattle.relations_write.proofs.Lines.{lines-few, row-counted, rows_all}
+use Rattle.relations_write.proofs.rows.count.Goals as goal
+use Rattle.relations_write.proofs.rows.count.Goals.{After-row_count-lines}
+
+pub loop-k-init : goal.loop-k-init
+unfolding join_below
+loop-k-init c = (c.requires.begun, omega arith, refl, omega arith, omega arith)
+
+pub row_at-row-requires : goal.row_at-row-requires
+row_at-row-requires c =
+    let s = c in
+    (s.loop-k.invariant.0 (omega (arith, c.loop-k-test.true)), omega (arith, c.loop-k-test.true, s.requires.rows_are))
+
+pub row_count-lines-requires : goal.row_count-lines-requires
+row_count-lines-requires c =
+    let w = c.row_at-row.ensures in
+    (c.pre, omega (arith, w.dependencies-inside, w.end-inside))
+
+-- the lines of one row more
+fits : (c : After-row_count-lines)
+    → 344 * (c.loop-k.lines + c.row_count-lines.result) ≤ c.row_at-row.result.end
+fits c =
+    let r = c in
+    let a = r.args in
+    omega (
+      arith,
+      r.loop-k.invariant.3,
+      r.row_at-row.ensures.dependencies-inside,
+      c.row_count-lines.ensures,
+      lines-few a.file.now (drop r.loop-k.at a.file.now) r.row_at-row.result.dependencies,
+    )
+
+pub overflow_add-lines : goal.overflow_add-lines
+overflow_add-lines c =
+    let r = c in
+    omega (arith, fits c, r.row_at-row.ensures.end-inside, r.pre.small)
+
+pub loop-k-preserved : goal.loop-k-preserved
+loop-k-preserved c =
+    let r = c in
+    let w = r.row_at-row.ensures in
+    let inv = r.loop-k.invariant in (
+      λ z. w.next,
+      omega (arith, r.loop-k-test.true),
+      omega (arith, inv.2, c.row_count-lines.ensures, row-counted _ _ _ _ _ w),
+      fits c,
+      omega (arith, fits c, w.end-inside),
+    )
+
+pub returns : goal.returns
+returns c =
+    let s = c in
+    let k = s in
+    let inv = s.loop-k.invariant in
+    let all : s.loop-k.k ≡ length (rows_of k.args.file.now) =
+    omega (arith, inv.1, c.loop-k-test.false, k.pre.rows_are) in
+    (inv.2 ∙ ap length (rows_all k.args.file.now _ all), inv.4)

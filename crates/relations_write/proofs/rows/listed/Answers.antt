@@ -1,0 +1,49 @@
+-- `relations_write::rows::listed` meets its contract. The loop's invariant: `count` of the dependencies before dependency j are
+-- listed. Assumes nothing.
+use Prim.Native.Nat.{ℕ, ◌-◌}
+use mathlib.Core.Bool.{Bool, true, false}
+use mathlib.Core.Logic.{⊎_elim}
+use mathlib.Core.Path.{◌≡◌, refl, sym, ◌∙◌}
+use native.Mathlib.Omega.{arith}
+use lib.ListN.{drop}
+use Rattle.relations_write.specs.Found.{listed_in}
+use Rattle.relations_write.specs.Counted.{count_below}
+use Rattle.relations_write.proofs.Lines.{count-few, count_next}
+use Rattle.relations_write.proofs.rows.listed.Goals as goal
+use Rattle.relations_write.proofs.rows.listed.Goals.{Start}
+
+-- which dependencies are listed
+abbrev tested : Start → ℕ → Bool
+tested k = listed_in k.args.file.now (drop k.args.at k.args.file.now)
+
+pub loop-j-init : goal.loop-j-init
+unfolding count_below
+loop-j-init c = (omega arith, refl)
+
+pub is_listed-requires : goal.is_listed-requires
+is_listed-requires c = (c.requires.0, omega (arith, c.loop-j-test.true, c.requires.1))
+
+pub overflow_add-count : goal.overflow_add-count
+overflow_add-count c =
+    let l = c in
+    omega (arith, l.loop-j-test.true, l.loop-j.invariant.1, count-few (tested l) l.loop-j.j)
+
+pub loop-j-preserved : goal.loop-j-preserved
+loop-j-preserved c =
+    let l = c in
+    let inv = l.loop-j.invariant in
+    let next = count_next (tested l) l.loop-j.j in
+    let is = sym c.is_listed.ensures in (
+      omega (arith, l.loop-j-test.true),
+      ⊎_elim
+          (λ t. omega (arith, t.1, inv.1, next true (is ∙ t.0.taken)))
+          (λ t. omega (arith, t.1, inv.1, next false (is ∙ t.0.left)))
+          c.if-is_listed.branch,
+    )
+
+pub returns : goal.returns
+returns c =
+    let k = c in
+    let inv = c.loop-j.invariant in
+    let all : c.loop-j.j ≡ k.args.n = omega (arith, inv.0, c.loop-j-test.false) in
+    rw all at inv.1

@@ -1,0 +1,72 @@
+-- `relations_write::rows::put_rows` meets its contract. The loop's invariant: the lines of the rows before row k, which begins at
+-- `at`, are put, up to p. Assumes nothing.
+use Prim.Native.Nat.{ℕ, ◌+◌, ◌-◌, ◌*◌, ◌≤◌}
+use mathlib.Core.Path.{◌≡◌}
+use native.Mathlib.Omega.{arith}
+use lib.ListN.{length}
+use Rattle.metafile.specs.Reading.{rows_of}
+use Rattle.relations_write.proofs.Lines.{put-room, lines_to, row-counted, row_put, rows_none, rows_few, rows_all}
+use Rattle.relations_write.proofs.rows.put_rows.Goals as goal
+use Rattle.relations_write.proofs.rows.put_rows.Goals.{Start}
+
+-- room for the lines up to row k
+room : (s : Start) (k : ℕ) → k ≤ s.args.t.rows
+    → s.args.from + 605 * lines_to s.args.file.now k ≤ length s.args.buffer.now
+room s k h =
+    let few : k ≤ length (rows_of s.args.file.now) = omega (arith, s.requires.0.rows_are) in
+    omega (arith, s.requires.1, rows_few s.args.file.now k few)
+
+pub loop-k-init : goal.loop-k-init
+loop-k-init c =
+    let s = c in
+    (s.requires.0.begun, omega arith, rows_none s.args.file.now s.args.from s.args.buffer.now)
+
+pub row_at-row-requires : goal.row_at-row-requires
+row_at-row-requires c =
+    let s = c in
+    (s.loop-k.invariant.0 (omega (arith, c.loop-k-test.true)), omega (arith, c.loop-k-test.true, s.requires.0.rows_are))
+
+pub put_row-p-requires : goal.put_row-p-requires
+put_row-p-requires c =
+    let r = c in
+    let s = r in
+    let l = r.loop-k in
+    let w = r.row_at-row.ensures in (
+      s.pre.0,
+      (
+        omega (arith, w.dependencies-inside, w.end-inside),
+        (
+          w.serial-inside,
+          omega (
+            arith,
+            l.invariant.2.ends,
+            row-counted _ _ _ _ _ w,
+            room (goal.at.put_row-p-requires c).Start (l.k + 1) (omega (arith, r.loop-k-test.true)),
+            put-room l.invariant.2 (room (goal.at.put_row-p-requires c).Start l.k l.invariant.1),
+          ),
+        ),
+      ),
+    )
+
+pub loop-k-preserved : goal.loop-k-preserved
+loop-k-preserved c =
+    let p = c in
+    let r = p in
+    let s = r in
+    let l = r.loop-k in
+    let w = r.row_at-row.ensures in
+    let more : l.k + 1 ≤ s.args.t.rows = omega (arith, r.loop-k-test.true) in (
+      λ z. w.next,
+      more,
+      row_put _ _ _ _ _ w l.invariant.2 (room (goal.at.loop-k-preserved c).Start (l.k + 1) more) p.put_row-p.ensures,
+    )
+
+pub shape_of-buffer : goal.shape_of-buffer
+shape_of-buffer c = let l = c.loop-k in put-room l.invariant.2 (room (goal.at.shape_of-buffer c).Start l.k l.invariant.1)
+
+pub returns : goal.returns
+returns c =
+    let s = c in
+    let l = c.loop-k in
+    let all : l.k ≡ length (rows_of s.args.file.now) = omega (arith, l.invariant.1, c.loop-k-test.false, s.pre.0.rows_are) in
+    rw (rows_all s.args.file.now _ all) at l.invariant.2.put

@@ -1,0 +1,10 @@
+-- `search::horspool::shift` meets its contract. Assumes nothing.
+use mathlib.Core.Path.{refl}
+use native.Mathlib.Omega.{arith}
+use Rattle.search.proofs.horspool.shift.Goals as goal
+
+pub overflow_cast-result : goal.overflow_cast-result
+overflow_cast-result c = omega (arith, c.shared_slice_known-1.given c.args.x)
+
+pub returns : goal.returns
+returns c = (refl, omega arith)

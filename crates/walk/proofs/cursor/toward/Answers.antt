@@ -1,0 +1,25 @@
+-- `walk::cursor::toward` meets its contract. Assumes nothing.
+use native.Mathlib.Omega.{arith}
+use Rattle.walk.proofs.Index.{indexed-more, index-long}
+use Rattle.walk.proofs.Cursors.{onto}
+use Rattle.walk.proofs.cursor.toward.Goals as goal
+
+pub bounds-index-0 : goal.bounds-index-0
+bounds-index-0 c = omega (arith, index-long c.requires.0.indexed)
+
+pub overflow_cast-n : goal.overflow_cast-n
+overflow_cast-n c = omega (arith, c.slice_known-2-1.given 0)
+
+pub bounds-index-1 : goal.bounds-index-1
+bounds-index-1 c = omega (arith, index-long c.requires.0.indexed)
+
+pub overflow_cast-at : goal.overflow_cast-at
+overflow_cast-at c = omega (arith, c.slice_known-then-n-k-eq1-1.given 1)
+
+pub behind-requires : goal.behind-requires
+behind-requires c =
+    let t = c in
+    let k = t in (
+      onto k.pre.0 k.pre.1.0 k.args.k k.pre.1.1 (omega (arith, t.if-k-n.true, t.if-n-k-eq1.true)),
+      indexed-more k.pre.0.indexed (omega (arith, k.pre.1.1)),
+    )

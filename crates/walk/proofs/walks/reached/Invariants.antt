@@ -1,0 +1,12 @@
+-- `walk::walks::reached` meets its contract. Assumes nothing.
+use Prim.Native.Nat.{◌-◌, ◌≤◌}
+use lib.ListN.{length}
+use Rattle.metafile.specs.Reading.{rows_of}
+use Rattle.walk.specs.Cursor.{At}
+use Rattle.walk.proofs.walks.reached.Given as goal
+
+abbrev pub invariant-loop-c : goal.invariant-loop-c
+invariant-loop-c l = At l.file l.c l.index × (l.c.row ≤ l.k)
+
+abbrev pub decreases-loop-c : goal.decreases-loop-c
+decreases-loop-c l = length (rows_of l.file) - l.c.row

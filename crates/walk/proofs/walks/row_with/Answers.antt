@@ -1,0 +1,76 @@
+-- `walk::walks::row_with` meets its contract. Assumes nothing.
+use Prim.Native.Nat.{◌-◌}
+use mathlib.Core.Path.{sym, ◌∙◌}
+use Rattle.metafile.specs.Reading.{rows_of}
+use Rattle.walk.proofs.Index.{index-long}
+use Rattle.walk.proofs.Serials.{known-with}
+use Rattle.walk.proofs.Loops.{seen-passed, numbered-here, numbered-none}
+use Rattle.walk.proofs.Cursors.{There, there, stops}
+use native.Mathlib.Omega.{arith}
+use Rattle.walk.proofs.walks.row_with.Goals as goal
+use Rattle.walk.proofs.walks.row_with.Goals.{In-loop-c, Start}
+
+-- the row at which it is asked
+own : (k : Start) → There k.args.file.now k.args.own
+own k = there k.requires.0 k.requires.1.0
+
+-- the row of the cursor
+here : (c : In-loop-c) → There c.args.file.now c.loop-c.c
+here c = there c.loop-c.invariant.0 c.loop-c-test.true
+
+pub row_before-before-requires : goal.row_before-before-requires
+row_before-before-requires c =
+    let k = c in
+    let w = own (goal.at.row_before-before-requires c).Start in
+    (w.behind.header_is, (w.behind.whole, (k.requires.1.1.0, (w.behind.few, k.requires.1.1.1))))
+
+pub returns-then-before : goal.returns-then-before
+returns-then-before c = c.row_before-before.ensures.1 c.if-before.true
+
+pub loop-c-init : goal.loop-c-init
+loop-c-init c =
+    let r = c in
+    let k = r in
+    (k.requires.0, sym (r.row_before-before.ensures.0 ∙ known-with k.args.serial (rows_of k.args.file.now) _ (own (goal.at.loop-c-init c).Start).behind.few) ∙ c.if-before.false)
+
+pub serial_at-requires : goal.serial_at-requires
+serial_at-requires c =
+    let k = own (goal.at.serial_at-requires c).Start in
+    let w = here (goal.at.serial_at-requires c).In-loop-c in
+    (k.behind.header_is, (k.behind.whole, (omega (arith, w.turn.inside), (w.turn.layout_is, w.turn.whole))))
+
+pub shape_of-index-then-same_serial : goal.shape_of-index-then-same_serial
+shape_of-index-then-same_serial c = let l = c in index-long l.loop-c.invariant.0.indexed ∙ sym (index-long l.requires.0.indexed)
+
+pub returns-then-same_serial : goal.returns-then-same_serial
+returns-then-same_serial c =
+    let a = c in
+    let w = here (goal.at.returns-then-same_serial c).In-loop-c in
+    let l = a in
+    numbered-here l.args.serial l.args.file.now w.begun _ _ w.turn.row w.behind.place_is _ _ a.serial_at.ensures c.same_serial.ensures l.loop-c.invariant.1 c.if-same_serial.true
+
+pub next-c-requires : goal.next-c-requires
+next-c-requires c = let i = c in (i.loop-c.invariant.0, i.loop-c-test.true)
+
+pub loop-c-smaller : goal.loop-c-smaller
+loop-c-smaller c = let n = c in omega (arith, (here (goal.at.loop-c-smaller c).In-loop-c).turn.row, n.next-c.ensures.1)
+
+pub loop-c-preserved : goal.loop-c-preserved
+loop-c-preserved c =
+    let n = c in
+    let e = n in
+    let a = e in
+    let w = here (goal.at.loop-c-preserved c).In-loop-c in
+    let l = a in (
+      n.next-c.ensures.0,
+      rw n.next-c.ensures.1
+          (seen-passed l.args.serial l.args.file.now w.begun _ _ w.turn.row w.behind.place_is _ _ a.serial_at.ensures e.same_serial.ensures l.loop-c.invariant.1 e.if-same_serial.false),
+    )
+
+pub shape_of-index : goal.shape_of-index
+shape_of-index c = let l = c in index-long l.loop-c.invariant.0.indexed ∙ sym (index-long l.requires.0.indexed)
+
+pub returns : goal.returns
+returns c =
+    let l = c in
+    numbered-none l.args.serial l.args.file.now _ l.loop-c.invariant.0.few l.loop-c.invariant.1 (omega (arith, (stops l.loop-c.invariant.0 c.loop-c-test.false).count))
