@@ -6,6 +6,8 @@ use lib.ListN.{length}
 use borrow.Author.Tests.{not-true, not-false}
 use Rattle.ancestors.proofs.Noting.{all_noted}
 use Rattle.ancestors.proofs.Answers.{small-counts, refused-11, refused-13, refused-24, refused-23, refused-18, answered}
+use mathlib.Core.Path.{ap}
+use mathlib.Core.Bool.{not}
 use Rattle.ancestors.proofs.ancestors.Goals as goal
 use Rattle.ancestors.proofs.ancestors.Goals.{Else-not-reached}
 
@@ -27,14 +29,12 @@ pub put_steps-requires : goal.put_steps-requires
 put_steps-requires c =
     let e = c in
     let n = e in
-    let w = n.note_rows-n.ensures in
-    (w.1, (all_noted w.1 w.0 e.if-n-gt-ROWS.false, refl))
+    let w = n.note_rows-n.ensures in record { noted = w.1; serials = all_noted w.1 w.0 e.if-n-gt-ROWS.false; table_value = refl }
 
 pub reach-reached-requires : goal.reach-reached-requires
 reach-reached-requires c =
     let s = c in
-    let e = s in
-    (s.put_steps.ensures.0.long, (e.if-n-gt-ROWS.left, e.if-n-row.left))
+    let e = s in record { table_len = s.put_steps.ensures.0.long; n_bound = e.if-n-gt-ROWS.left; row_lt_n = e.if-n-row.left }
 
 pub returns-then-not-reached : goal.returns-then-not-reached
 returns-then-not-reached c =
@@ -43,13 +43,13 @@ returns-then-not-reached c =
     let e = s in
     let n = e in
     refused-23 _ _ _ n.if-file-gt-LIMIT.left _ n.note_rows-n.ensures.0 e.if-n-row.left e.if-n-gt-ROWS.left _ s.put_steps.ensures.0
-    _ _ r.reach-reached.ensures (not-true _ c.if-not-reached.true)
+    _ _ r.reach-reached.ensures (not-true _ (ap not c.if-not-reached.true))
 
 -- the marks are as many as rows can be
 marks-room : (c : Else-not-reached) → (c).note-rows.result ≤ length c.reach-reached.result.marks
 marks-room c =
     let r = c in
-    omega (arith, r.if-n-gt-ROWS.false, r.reach-reached.ensures.long (not-false _ c.if-not-reached.false))
+    omega (arith, r.if-n-gt-ROWS.false, r.reach-reached.ensures.long (not-false _ (ap not c.if-not-reached.false)))
 
 pub count-count-requires : goal.count-count-requires
 count-count-requires c =
@@ -65,13 +65,12 @@ returns-then-list-count c =
     let e = s in
     let n = e in
     refused-18 _ _ _ n.if-file-gt-LIMIT.left _ n.note_rows-n.ensures.0 e.if-n-row.left e.if-n-gt-ROWS.left _ s.put_steps.ensures.0
-    _ _ r.reach-reached.ensures (not-false _ f.if-not-reached.false) _ k.count-count.ensures c.if-list-count.true
+    _ _ r.reach-reached.ensures (not-false _ (ap not f.if-not-reached.false)) _ k.count-count.ensures c.if-list-count.true
 
 pub put_rows-requires : goal.put_rows-requires
 put_rows-requires c =
     let o = c in
-    let k = o in
-    (marks-room (goal.at.put_rows-requires c).Else-not-reached, omega (arith, k.count-count.ensures, o.if-list-count.false))
+    let k = o in record { n_in_bounds = marks-room (goal.at.put_rows-requires c).Else-not-reached; n_in_bounds_2 = omega (arith, k.count-count.ensures, o.if-list-count.false) }
 
 pub missing-requires : goal.missing-requires
 missing-requires c =
@@ -79,8 +78,7 @@ missing-requires c =
     let f = o in
     let s = f in
     let e = s in
-    let n = e in
-    (marks-room (goal.at.missing-requires c).Else-not-reached, small-counts n.note_rows-n.ensures.1 e.if-n-gt-ROWS.left n.if-file-gt-LIMIT.left s.put_steps.ensures.1)
+    let n = e in record { n_in_bounds = marks-room (goal.at.missing-requires c).Else-not-reached; small = small-counts n.note_rows-n.ensures.1 e.if-n-gt-ROWS.left n.if-file-gt-LIMIT.left s.put_steps.ensures.1 }
 
 pub returns : goal.returns
 returns c =
@@ -93,5 +91,5 @@ returns c =
     let e = s in
     let n = e in
     answered _ _ _ n.if-file-gt-LIMIT.left _ n.note_rows-n.ensures.0 e.if-n-row.left e.if-n-gt-ROWS.left _ s.put_steps.ensures.0
-    _ _ r.reach-reached.ensures (not-false _ f.if-not-reached.false) _ k.count-count.ensures _ s.put_steps.ensures.1 o.if-list-count.false
+    _ _ r.reach-reached.ensures (not-false _ (ap not f.if-not-reached.false)) _ k.count-count.ensures _ s.put_steps.ensures.1 o.if-list-count.false
     _ p.put_rows.ensures _ c.missing.ensures

@@ -35,7 +35,7 @@ slice_bounds-survey-end-2 c =
     sym (length-take-le start.args.length start.args.buffer.now (inside start.args.buffer.now start.args.length (given_of start.args.description start.args.parents.now start.args.specific.now start.args.contents.now start.args.«open») (lent c)))
 
 pub refusal-number-requires : goal.refusal-number-requires
-refusal-number-requires c = (lent (goal.at.refusal-number-requires c).Else-over_limit, c.survey-survey.ensures)
+refusal-number-requires c = record { open_value = lent (goal.at.refusal-number-requires c).Else-over_limit; survey_value = c.survey-survey.ensures }
 
 pub returns-then-number-ne0 : goal.returns-then-number-ne0
 unfolding append_answer append
@@ -45,8 +45,7 @@ returns-then-number-ne0 c =
 
 pub put_chunk-requires : goal.put_chunk-requires
 put_chunk-requires c =
-    let last = c in
-    (sym (sym c.if-number-ne0.false ∙ last.refusal-number.ensures), last.survey-survey.ensures)
+    let last = c in record { open_value = sym (sym c.if-number-ne0.false ∙ last.refusal-number.ensures); survey_value = last.survey-survey.ensures }
 
 pub returns : goal.returns
 returns c =

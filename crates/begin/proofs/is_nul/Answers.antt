@@ -9,5 +9,5 @@ use Rattle.begin.proofs.is_nul.Goals as goal
 pub returns : goal.returns
 unfolding word_no
 returns c =
-    let long : length c.args.t1 ≡ 3 = search rules in
-    rw (part-whole c.args.t1 3 long) at c.is_is_word.ensures
+    let long : length c.args.strategy ≡ 3 = search rules in
+    rw (part-whole c.args.strategy 3 long) at c.is_is_word.ensures

@@ -20,20 +20,20 @@ passed₂ : (c : Else-not-is_formed) → Passed (begin_tests (given_of c.args.st
 unfolding begin_tests
 passed₂ c =
     let passed₁ : Passed (begin_tests (given_of c.args.strategy c.args.mark.now c.args.serial c.args.recorded c.args.recorder.now c.args.written c.args.writer.now) c.args.buffer.now) 1 = goes_on (begin_tests (given_of c.args.strategy c.args.mark.now c.args.serial c.args.recorded c.args.recorder.now c.args.written c.args.writer.now) c.args.buffer.now) 0 11 _ _ refl refl (sym c.over_limit.ensures ∙ c.if-over_limit.false) in
-    goes_on (begin_tests (given_of c.args.strategy c.args.mark.now c.args.serial c.args.recorded c.args.recorder.now c.args.written c.args.writer.now) c.args.buffer.now) 1 6 _ _ refl passed₁ (ap not (sym c.is_formed.ensures) ∙ c.if-not-is_formed.false)
+    goes_on (begin_tests (given_of c.args.strategy c.args.mark.now c.args.serial c.args.recorded c.args.recorder.now c.args.written c.args.writer.now) c.args.buffer.now) 1 6 _ _ refl passed₁ (ap not (sym c.is_formed.ensures) ∙ (ap not c.if-not-is_formed.false))
 
 passed₃ : (c : Else-is_nul-mark) → Passed (begin_tests (given_of c.args.strategy c.args.mark.now c.args.serial c.args.recorded c.args.recorder.now c.args.written c.args.writer.now) c.args.buffer.now) 3
 unfolding begin_tests
 passed₃ c =
     let passed₂ : Passed (begin_tests (given_of c.args.strategy c.args.mark.now c.args.serial c.args.recorded c.args.recorder.now c.args.written c.args.writer.now) c.args.buffer.now) 2 = let passed₁ : Passed (begin_tests (given_of c.args.strategy c.args.mark.now c.args.serial c.args.recorded c.args.recorder.now c.args.written c.args.writer.now) c.args.buffer.now) 1 = goes_on (begin_tests (given_of c.args.strategy c.args.mark.now c.args.serial c.args.recorded c.args.recorder.now c.args.written c.args.writer.now) c.args.buffer.now) 0 11 _ _ refl refl (sym c.over_limit.ensures ∙ c.if-over_limit.false) in
-    goes_on (begin_tests (given_of c.args.strategy c.args.mark.now c.args.serial c.args.recorded c.args.recorder.now c.args.written c.args.writer.now) c.args.buffer.now) 1 6 _ _ refl passed₁ (ap not (sym c.is_formed.ensures) ∙ c.if-not-is_formed.false) in
+    goes_on (begin_tests (given_of c.args.strategy c.args.mark.now c.args.serial c.args.recorded c.args.recorder.now c.args.written c.args.writer.now) c.args.buffer.now) 1 6 _ _ refl passed₁ (ap not (sym c.is_formed.ensures) ∙ (ap not c.if-not-is_formed.false)) in
     goes_on (begin_tests (given_of c.args.strategy c.args.mark.now c.args.serial c.args.recorded c.args.recorder.now c.args.written c.args.writer.now) c.args.buffer.now) 2 2 _ _ refl passed₂ (rw (← c.is_nul.ensures, ← empty-is) c.if-is_nul-mark.false)
 
 passed₄ : (c : Else-begins_mini) → Passed (begin_tests (given_of c.args.strategy c.args.mark.now c.args.serial c.args.recorded c.args.recorder.now c.args.written c.args.writer.now) c.args.buffer.now) 4
 unfolding begin_tests
 passed₄ c =
     let passed₃ : Passed (begin_tests (given_of c.args.strategy c.args.mark.now c.args.serial c.args.recorded c.args.recorder.now c.args.written c.args.writer.now) c.args.buffer.now) 3 = let passed₂ : Passed (begin_tests (given_of c.args.strategy c.args.mark.now c.args.serial c.args.recorded c.args.recorder.now c.args.written c.args.writer.now) c.args.buffer.now) 2 = let passed₁ : Passed (begin_tests (given_of c.args.strategy c.args.mark.now c.args.serial c.args.recorded c.args.recorder.now c.args.written c.args.writer.now) c.args.buffer.now) 1 = goes_on (begin_tests (given_of c.args.strategy c.args.mark.now c.args.serial c.args.recorded c.args.recorder.now c.args.written c.args.writer.now) c.args.buffer.now) 0 11 _ _ refl refl (sym c.over_limit.ensures ∙ c.if-over_limit.false) in
-    goes_on (begin_tests (given_of c.args.strategy c.args.mark.now c.args.serial c.args.recorded c.args.recorder.now c.args.written c.args.writer.now) c.args.buffer.now) 1 6 _ _ refl passed₁ (ap not (sym c.is_formed.ensures) ∙ c.if-not-is_formed.false) in
+    goes_on (begin_tests (given_of c.args.strategy c.args.mark.now c.args.serial c.args.recorded c.args.recorder.now c.args.written c.args.writer.now) c.args.buffer.now) 1 6 _ _ refl passed₁ (ap not (sym c.is_formed.ensures) ∙ (ap not c.if-not-is_formed.false)) in
     goes_on (begin_tests (given_of c.args.strategy c.args.mark.now c.args.serial c.args.recorded c.args.recorder.now c.args.written c.args.writer.now) c.args.buffer.now) 2 2 _ _ refl passed₂ (rw (← c.is_nul.ensures, ← empty-is) c.if-is_nul-mark.false) in
     goes_on (begin_tests (given_of c.args.strategy c.args.mark.now c.args.serial c.args.recorded c.args.recorder.now c.args.written c.args.writer.now) c.args.buffer.now) 3 3 _ _ refl passed₃ (sym c.begins_mini.ensures ∙ c.if-begins_mini.false)
 
@@ -41,13 +41,13 @@ passed₅ : (c : Else-not-is_clear) → Passed (begin_tests (given_of c.args.str
 unfolding begin_tests
 passed₅ c =
     let passed₄ : Passed (begin_tests (given_of c.args.strategy c.args.mark.now c.args.serial c.args.recorded c.args.recorder.now c.args.written c.args.writer.now) c.args.buffer.now) 4 = let passed₃ : Passed (begin_tests (given_of c.args.strategy c.args.mark.now c.args.serial c.args.recorded c.args.recorder.now c.args.written c.args.writer.now) c.args.buffer.now) 3 = let passed₂ : Passed (begin_tests (given_of c.args.strategy c.args.mark.now c.args.serial c.args.recorded c.args.recorder.now c.args.written c.args.writer.now) c.args.buffer.now) 2 = let passed₁ : Passed (begin_tests (given_of c.args.strategy c.args.mark.now c.args.serial c.args.recorded c.args.recorder.now c.args.written c.args.writer.now) c.args.buffer.now) 1 = goes_on (begin_tests (given_of c.args.strategy c.args.mark.now c.args.serial c.args.recorded c.args.recorder.now c.args.written c.args.writer.now) c.args.buffer.now) 0 11 _ _ refl refl (sym c.over_limit.ensures ∙ c.if-over_limit.false) in
-    goes_on (begin_tests (given_of c.args.strategy c.args.mark.now c.args.serial c.args.recorded c.args.recorder.now c.args.written c.args.writer.now) c.args.buffer.now) 1 6 _ _ refl passed₁ (ap not (sym c.is_formed.ensures) ∙ c.if-not-is_formed.false) in
+    goes_on (begin_tests (given_of c.args.strategy c.args.mark.now c.args.serial c.args.recorded c.args.recorder.now c.args.written c.args.writer.now) c.args.buffer.now) 1 6 _ _ refl passed₁ (ap not (sym c.is_formed.ensures) ∙ (ap not c.if-not-is_formed.false)) in
     goes_on (begin_tests (given_of c.args.strategy c.args.mark.now c.args.serial c.args.recorded c.args.recorder.now c.args.written c.args.writer.now) c.args.buffer.now) 2 2 _ _ refl passed₂ (rw (← c.is_nul.ensures, ← empty-is) c.if-is_nul-mark.false) in
     goes_on (begin_tests (given_of c.args.strategy c.args.mark.now c.args.serial c.args.recorded c.args.recorder.now c.args.written c.args.writer.now) c.args.buffer.now) 3 3 _ _ refl passed₃ (sym c.begins_mini.ensures ∙ c.if-begins_mini.false) in
-    goes_on (begin_tests (given_of c.args.strategy c.args.mark.now c.args.serial c.args.recorded c.args.recorder.now c.args.written c.args.writer.now) c.args.buffer.now) 4 15 _ _ refl passed₄ (ap not (sym c.is_clear.ensures) ∙ c.if-not-is_clear.false)
+    goes_on (begin_tests (given_of c.args.strategy c.args.mark.now c.args.serial c.args.recorded c.args.recorder.now c.args.written c.args.writer.now) c.args.buffer.now) 4 15 _ _ refl passed₄ (ap not (sym c.is_clear.ensures) ∙ (ap not c.if-not-is_clear.false))
 
 in-form : (c : Else-not-is_formed) → begin_formed (given_of c.args.strategy c.args.mark.now c.args.serial c.args.recorded c.args.recorder.now c.args.written c.args.writer.now) ≡ true
-in-form c = sym c.is_formed.ensures ∙ not-false _ c.if-not-is_formed.false
+in-form c = sym c.is_formed.ensures ∙ not-false _ (ap not c.if-not-is_formed.false)
 
 pub returns-then-over_limit : goal.returns-then-over_limit
 unfolding begin_tests
@@ -56,7 +56,7 @@ returns-then-over_limit c = stops (begin_tests (given_of c.args.strategy c.args.
 pub returns-then-not-is_formed : goal.returns-then-not-is_formed
 unfolding begin_tests
 returns-then-not-is_formed c =
-    stops (begin_tests (given_of c.args.strategy c.args.mark.now c.args.serial c.args.recorded c.args.recorder.now c.args.written c.args.writer.now) c.args.buffer.now) 1 6 _ _ refl (passed₁ (goal.at.returns-then-not-is_formed c).Else-over_limit) (ap not (sym c.is_formed.ensures) ∙ c.if-not-is_formed.true)
+    stops (begin_tests (given_of c.args.strategy c.args.mark.now c.args.serial c.args.recorded c.args.recorder.now c.args.written c.args.writer.now) c.args.buffer.now) 1 6 _ _ refl (passed₁ (goal.at.returns-then-not-is_formed c).Else-over_limit) (ap not (sym c.is_formed.ensures) ∙ (ap not c.if-not-is_formed.true))
 
 pub returns-then-is_nul-mark : goal.returns-then-is_nul-mark
 unfolding begin_tests
@@ -71,7 +71,7 @@ returns-then-begins_mini c =
 pub returns-then-not-is_clear : goal.returns-then-not-is_clear
 unfolding begin_tests
 returns-then-not-is_clear c =
-    stops (begin_tests (given_of c.args.strategy c.args.mark.now c.args.serial c.args.recorded c.args.recorder.now c.args.written c.args.writer.now) c.args.buffer.now) 4 15 _ _ refl (passed₄ (goal.at.returns-then-not-is_clear c).Else-begins_mini) (ap not (sym c.is_clear.ensures) ∙ c.if-not-is_clear.true)
+    stops (begin_tests (given_of c.args.strategy c.args.mark.now c.args.serial c.args.recorded c.args.recorder.now c.args.written c.args.writer.now) c.args.buffer.now) 4 15 _ _ refl (passed₄ (goal.at.returns-then-not-is_clear c).Else-begins_mini) (ap not (sym c.is_clear.ensures) ∙ (ap not c.if-not-is_clear.true))
 
 pub overflow_add-mark : goal.overflow_add-mark
 overflow_add-mark c = omega (arith, mark-fits _ (in-form (goal.at.overflow_add-mark c).Else-not-is_formed))

@@ -8,6 +8,6 @@ pub returns : goal.returns
 returns c =
     let start = c in
     let put = c in
-    title-put start.args.t1 start.args.mark put.put_bytes-at.result _ put.put_bytes-at.new.buffer c.put_number.new.buffer
+    title-put start.args.strategy start.args.mark put.put_bytes-at.result _ put.put_bytes-at.new.buffer c.put_number.new.buffer
     (search rules) refl
     put.put_bytes-at.ensures.0 put.put_bytes-at.ensures.1 c.put_number.ensures.1

@@ -29,8 +29,7 @@ returns-then-buffer-length c =
 pub put_blocks-requires : goal.put_blocks-requires
 put_blocks-requires c =
     let e = c in
-    let b = e in
-    (limit-small _ _ (within (goal.at.put_blocks-requires c).Else-over_limit), (b.block_count-count.ensures.0, e.if-buffer-length.false))
+    let b = e in record { file_len_bound = limit-small _ _ (within (goal.at.put_blocks-requires c).Else-over_limit); count_value = b.block_count-count.ensures.0; count_in_bounds = e.if-buffer-length.false }
 
 pub returns : goal.returns
 returns c =

@@ -26,7 +26,7 @@ right : (c : Else-fault-ne0) → unpack_fault c.args.blocks.now ≡ 0
 right c = sym c.unpack_fault-fault.ensures ∙ c.if-fault-ne0.false
 
 pub unpacked_length-length-requires : goal.unpacked_length-length-requires
-unpacked_length-length-requires c = (limit-small _ _ (within (goal.at.unpacked_length-length-requires c).Else-over_limit), right c)
+unpacked_length-length-requires c = record { x_len_bound = limit-small _ _ (within (goal.at.unpacked_length-length-requires c).Else-over_limit); x_value = right c }
 
 pub returns-then-buffer-length : goal.returns-then-buffer-length
 returns-then-buffer-length c =
@@ -38,8 +38,7 @@ pub put_file-requires : goal.put_file-requires
 put_file-requires c =
     let f = c in
     let n = f in
-    let e = n in
-    (limit-small _ _ (within (goal.at.put_file-requires c).Else-over_limit), (right (goal.at.put_file-requires c).Else-fault-ne0, omega (arith, n.unpacked_length-length.ensures, f.if-buffer-length.false)))
+    let e = n in record { x_len_bound = limit-small _ _ (within (goal.at.put_file-requires c).Else-over_limit); x_value = right (goal.at.put_file-requires c).Else-fault-ne0; x_in_bounds = omega (arith, n.unpacked_length-length.ensures, f.if-buffer-length.false) }
 
 pub returns : goal.returns
 returns c =

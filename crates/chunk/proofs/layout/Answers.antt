@@ -24,8 +24,8 @@ header_is c = c.head-head.ensures.bytes-are c.if-fault-ne0.false
 contents-read : (c : After-contents_part-part)
     → ContentsRead c.args.llc c.args.mark.now c.args.s.now c.head-head.result.bytes c.is_multi-multichunk.result c.contents_part-part.result
 contents-read c =
-    let header_is : c.head-head.result.bytes ≡ header_bytes c.args.s.now = c.head-head.ensures.bytes-are c.if-fault-ne0.false in
     let unfaulted : chunk_header_fault c.args.s.now ≡ 0 = sym c.head-head.ensures.fault ∙ c.if-fault-ne0.false in
+    let header_is : c.head-head.result.bytes ≡ header_bytes c.args.s.now = c.head-head.ensures.bytes-are c.if-fault-ne0.false in
     record {
       in-header = unfaulted;
       header_is = header_is;
@@ -37,8 +37,8 @@ contents-read c =
 contents-end : (c : After-contents_from)
     → c.head-head.result.bytes + c.contents_from.result + c.contents_part-part.result.bytes ≤ length c.args.s.now
 contents-end c =
-    let contents-read : ContentsRead c.args.llc c.args.mark.now c.args.s.now c.head-head.result.bytes c.is_multi-multichunk.result c.contents_part-part.result = let header_is : c.head-head.result.bytes ≡ header_bytes c.args.s.now = c.head-head.ensures.bytes-are c.if-fault-ne0.false in
-    let unfaulted : chunk_header_fault c.args.s.now ≡ 0 = sym c.head-head.ensures.fault ∙ c.if-fault-ne0.false in
+    let contents-read : ContentsRead c.args.llc c.args.mark.now c.args.s.now c.head-head.result.bytes c.is_multi-multichunk.result c.contents_part-part.result = let unfaulted : chunk_header_fault c.args.s.now ≡ 0 = sym c.head-head.ensures.fault ∙ c.if-fault-ne0.false in
+    let header_is : c.head-head.result.bytes ≡ header_bytes c.args.s.now = c.head-head.ensures.bytes-are c.if-fault-ne0.false in
     record {
       in-header = unfaulted;
       header_is = header_is;
@@ -51,8 +51,8 @@ closing_end : (c : Else-broken-ne0)
     → c.head-head.result.bytes + c.contents_from.result + c.contents_part-part.result.bytes + length c.args.mark.now + 254 + length c.args.mark.now
     ≤ length c.args.s.now
 closing_end c =
-    let contents-end : c.head-head.result.bytes + c.contents_from.result + c.contents_part-part.result.bytes ≤ length c.args.s.now = let contents-read : ContentsRead c.args.llc c.args.mark.now c.args.s.now c.head-head.result.bytes c.is_multi-multichunk.result c.contents_part-part.result = let header_is : c.head-head.result.bytes ≡ header_bytes c.args.s.now = c.head-head.ensures.bytes-are c.if-fault-ne0.false in
-    let unfaulted : chunk_header_fault c.args.s.now ≡ 0 = sym c.head-head.ensures.fault ∙ c.if-fault-ne0.false in
+    let contents-end : c.head-head.result.bytes + c.contents_from.result + c.contents_part-part.result.bytes ≤ length c.args.s.now = let contents-read : ContentsRead c.args.llc c.args.mark.now c.args.s.now c.head-head.result.bytes c.is_multi-multichunk.result c.contents_part-part.result = let unfaulted : chunk_header_fault c.args.s.now ≡ 0 = sym c.head-head.ensures.fault ∙ c.if-fault-ne0.false in
+    let header_is : c.head-head.result.bytes ≡ header_bytes c.args.s.now = c.head-head.ensures.bytes-are c.if-fault-ne0.false in
     record {
       in-header = unfaulted;
       header_is = header_is;

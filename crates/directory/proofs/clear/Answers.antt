@@ -23,3 +23,12 @@ shape_of-d c = c.loop-i.invariant.0 ∙ sym c.requires
 
 pub returns : goal.returns
 returns c = let at = c.loop-i in cleared-all at.d at.i at.invariant.0 c.loop-i-test.false at.invariant.1
+
+pub offset_bounds-d-i : goal.offset_bounds-d-i
+offset_bounds-d-i c = omega arith
+
+pub bounds-d-i : goal.bounds-d-i
+bounds-d-i c = omega arith
+
+pub overflow_add-i : goal.overflow_add-i
+overflow_add-i c = omega arith

@@ -25,4 +25,7 @@ is c =
 pub overflow_add-result : goal.overflow_add-result
 overflow_add-result c =
     let k = c in
-    omega (arith, is c, free-inside k.args.e k.args.hash k.args.d.now k.pre, k.pre, sized)
+    omega (arith, is c, free-inside k.args.e k.args.hash k.args.d.now k.requires, k.requires, sized)
+
+pub returns : goal.returns
+returns c = is c

@@ -15,15 +15,14 @@ returns-then-n-e c =
 pub bounds-d-e : goal.bounds-d-e
 bounds-d-e c =
     let k = c in
-    omega (arith, c.if-n-e.false, k.pre.0.few, k.pre.0.long, sized, k.pre.1.1)
+    omega (arith, c.if-n-e.false, k.requires.directory.few, k.requires.directory.long, sized, k.requires.e_nonzero)
 
 pub overflow_cast-key : goal.overflow_cast-key
 overflow_cast-key c = Fits-widen tt (c.shared_slice_known-4-1.given _)
 
 pub same_at-requires : goal.same_at-requires
 same_at-requires c =
-    let k = c in
-    (k.pre.0.inside (k.args.e - 1) (omega (arith, c.if-n-e.false, k.pre.1.1)), k.pre.1.0)
+    let k = c in record { key_in_bounds = k.requires.directory.inside (k.args.e - 1) (omega (arith, c.if-n-e.false, k.requires.e_nonzero)); in_bounds = k.requires.in_bounds }
 
 pub returns : goal.returns
 returns c =

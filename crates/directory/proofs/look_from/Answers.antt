@@ -1,13 +1,14 @@
 -- `directory::look_from` meets its contract. The loop's invariant: each entry with the serial number is reached from `i`
 -- on. The measure is what is left of the array. Assumes nothing.
 use Prim.Native.Nat.{◌-◌}
+use native.Mathlib.Omega.{arith}
 use lib.ListN.{get_or}
 use mir.Facts.{Fits-widen}
 use Rattle.directory.proofs.Laws.{some, ahead-end, ahead-empty, ahead-found, ahead-next}
 use Rattle.directory.proofs.look_from.Goals as goal
 
 pub loop-i-init : goal.loop-i-init
-loop-i-init c = c.requires.1.1
+loop-i-init c = c.requires.ahead
 
 pub overflow_cast-e : goal.overflow_cast-e
 overflow_cast-e c = Fits-widen tt (c.shared_slice_known-in-loop-i-1.given _)
@@ -22,8 +23,7 @@ returns-then-e-eq0 c =
 pub is_entry-requires : goal.is_entry-requires
 is_entry-requires c =
     let at = c in
-    let k = at in
-    (k.pre.0, (k.pre.1.0, some (get_or k.args.d.now at.loop-i.i 0) c.if-e-eq0.false))
+    let k = at in record { directory = k.requires.directory; in_bounds = k.requires.in_bounds; e_nonzero = some (get_or k.args.d.now at.loop-i.i 0) c.if-e-eq0.false }
 
 pub returns-then-is_entry : goal.returns-then-is_entry
 returns-then-is_entry c =
@@ -46,3 +46,15 @@ returns c =
     let at = c in
     let args = at.args in
     ahead-end args.file.now args.d.now args.serial.now args.n at.loop-i.i at.loop-i.invariant c.loop-i-test.false
+
+pub offset_bounds-d-i : goal.offset_bounds-d-i
+offset_bounds-d-i c = omega arith
+
+pub bounds-d-i : goal.bounds-d-i
+bounds-d-i c = omega arith
+
+pub overflow_add-i : goal.overflow_add-i
+overflow_add-i c = omega arith
+
+pub loop-i-smaller : goal.loop-i-smaller
+loop-i-smaller c = omega arith

@@ -8,5 +8,4 @@ pub look_from-requires : goal.look_from-requires
 look_from-requires c =
     let k = c in
     let args = k.args in
-    let from = ahead-first args.file.now args.d.now args.serial.now args.n k.requires.0 in
-    (k.requires.0, (k.requires.1, rw (c.slot_for.ensures.0 ∙ ap slot_for c.hash.ensures) from))
+    let from = ahead-first args.file.now args.d.now args.serial.now args.n k.requires.directory in record { directory = k.requires.directory; in_bounds = k.requires.in_bounds; ahead = rw (c.slot_for.ensures.0 ∙ ap slot_for c.hash.ensures) from }

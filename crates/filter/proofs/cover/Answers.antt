@@ -9,5 +9,5 @@ returns c =
     let s = w1 in
     let f = s in
     let args = f.args in
-    covering-is args.hash args.words-1.now f.first-a.result s.second-b.result f.first-a.ensures s.second-b.ensures
+    covering-is args.hash args.words.now f.first-a.result s.second-b.result f.first-a.ensures s.second-b.ensures
     w1.set_bits.new.words w2.set_bits-2.new.words w1.set_bits.ensures w2.set_bits-2.ensures

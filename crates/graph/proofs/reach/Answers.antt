@@ -5,10 +5,10 @@ use Rattle.graph.proofs.reach.Goals as goal
 pub standing-fine-requires : goal.standing-fine-requires
 standing-fine-requires c =
     let p = c.requires in
-    begun _ _ _ p.0 p.1.0 p.1.1
+    begun _ _ _ p.table_len p.n_bound p.row_lt_n
 
 pub returns : goal.returns
 returns c =
     let p = c.requires in
     let answer = c.standing-fine.ensures in
-    answered p.1.0 p.1.1 _ answer.0 answer.1
+    answered p.n_bound p.row_lt_n _ answer.0 answer.1

@@ -15,13 +15,10 @@ counted-all b t n e h = rw e h
 
 pub returns-then-m : goal.returns-then-m
 returns-then-m c =
-    let args = c.args in (
-      c.find_plain.ensures ∙ ap (λ (v : List ℕ). find args.mark.now v) (append-nil args.s.now),
-      counted_none _ _ c.if-m.true,
-    )
+    let args = c.args in record { place_value = c.find_plain.ensures ∙ ap (λ (v : List ℕ). find args.mark.now v) (append-nil args.s.now); tried_value = counted_none _ _ c.if-m.true }
 
 pub sought-requires : goal.sought-requires
 sought-requires c = has-shifts _ c.if-m.false
 
 pub returns : goal.returns
-returns c = (c.sought.ensures.0, counted-all _ _ _ c.if-m.false c.sought.ensures.1)
+returns c = record { place_value = c.sought.ensures.0; tried_value = counted-all _ _ _ c.if-m.false c.sought.ensures.1 }

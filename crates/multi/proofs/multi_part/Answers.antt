@@ -31,7 +31,7 @@ returns-then-part-ne0 c =
     (none c.head_fault-head.ensures
     c.if-head-ne0.false) _
     (rw c.type_count-n.ensures at
-    c.types_part-part.ensures.0) c.if-part-ne0.true
+    c.types_part-part.ensures.value) c.if-part-ne0.true
 
 pub first_fault-first-requires : goal.first_fault-first-requires
 first_fault-first-requires c =
@@ -40,7 +40,7 @@ first_fault-first-requires c =
     (none c.head_fault-head.ensures
     c.if-head-ne0.false) _
     (rw c.type_count-n.ensures at
-    c.types_part-part.ensures.0) c.if-part-ne0.false
+    c.types_part-part.ensures.value) c.if-part-ne0.false
 
 pub returns-then-first-ne0 : goal.returns-then-first-ne0
 returns-then-first-ne0 c =
@@ -49,7 +49,7 @@ returns-then-first-ne0 c =
     (none c.head_fault-head.ensures
     c.if-head-ne0.false) _
     (rw c.type_count-n.ensures at
-    c.types_part-part.ensures.0) c.if-part-ne0.false
+    c.types_part-part.ensures.value) c.if-part-ne0.false
     _ c.first_fault-first.ensures c.if-first-ne0.true
 
 pub minis_part-requires : goal.minis_part-requires
@@ -62,12 +62,9 @@ minis_part-requires c =
     let most = head-most a.r.now head in
     let count = c.type_count-n.ensures in
     let types = c.types_part-part in
-    let part = rw count at types.ensures.0 in
+    let part = rw count at types.ensures.value in
     let passed = c.if-part-ne0.false in
-    let kept = types.auto.1.1.0 in (
-      (place_inside a.r.now head _ part passed, omega (arith, count)),
-      texts-kept a.r.now head _ part passed _ _ count (types.ensures.1 passed),
-    )
+    let kept = types.auto.1.1.0 in record { start_in_bounds = (place_inside a.r.now head _ part passed, omega (arith, count)); text_ids = texts-kept a.r.now head _ part passed _ _ count (types.ensures.ids_after passed) }
 
 pub returns : goal.returns
 returns c =
@@ -75,14 +72,14 @@ returns c =
     c.args
     in
     let count = c.type_count-n.ensures in
-    let ids = c.types_part-part.ensures.1
+    let ids = c.types_part-part.ensures.ids_after
     c.if-part-ne0.false in
     multi-minis a.r.now
     (none
     c.head_fault-head.ensures
     c.if-head-ne0.false) _
     (rw c.type_count-n.ensures at
-    c.types_part-part.ensures.0)
+    c.types_part-part.ensures.value)
     c.if-part-ne0.false
     _ _ _ c.first_fault-first.ensures c.if-first-ne0.false (rw count at ids)
     (rw count at c.minis_part.ensures)

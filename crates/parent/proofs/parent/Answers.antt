@@ -9,6 +9,7 @@ use Rattle.walk.specs.Walk.{numbered_of}
 use Rattle.walk.proofs.Index.{indexed-none}
 use Rattle.walk.proofs.Named.{Named, named, named-at, earlier-place}
 use Rattle.parent.proofs.Answers.{refused-row, refused-14, dependency-inside, Met, met, missing, answered}
+use mathlib.Core.Bool.{not}
 use Rattle.parent.proofs.parent.Goals as goal
 use Rattle.parent.proofs.parent.Goals.{After-row_with-found, Else-not-found, Else-own-dependency, Else-own-ne0}
 
@@ -58,8 +59,7 @@ row_with-found-requires c =
     let row = e.args.row in
     let from = e.sought_from-from in
     let less = from.ensures in
-    let place = earlier-place e.args.file.now from.result row less e.row_of-middle.result e.row_of-middle.ensures.0 w in
-    (named-at w e.row_behind-own.ensures.1, (w.goes, (omega (arith, w.row_is, less), place)))
+    let place = earlier-place e.args.file.now from.result row less e.row_of-middle.result e.row_of-middle.ensures.0 w in record { at = named-at w e.row_behind-own.ensures.1; go_value = w.goes; m_le_row = omega (arith, w.row_is, less); place_value = place }
 
 other-is : (c : After-row_with-found) → c.row_with-found.result ≡ numbered_of c.args.file.now (part ((c.row_behind-own.result.at + 568 + 344 * c.args.dependency) + 25) 38 c.args.file.now)
 other-is c = c.row_with-found.ensures ∙ ap (numbered_of c.args.file.now) c.serial_at-serial.ensures
@@ -68,12 +68,12 @@ pub returns-then-not-found : goal.returns-then-not-found
 returns-then-not-found c =
     let r = c in
     let e = r in
-    missing _ _ _ _ (own (goal.at.returns-then-not-found c).Else-own-ne0) (has (goal.at.returns-then-not-found c).Else-own-dependency) r.row_with-found.result (other-is (goal.at.returns-then-not-found c).After-row_with-found) (not-true _ c.if-not-found.true)
+    missing _ _ _ _ (own (goal.at.returns-then-not-found c).Else-own-ne0) (has (goal.at.returns-then-not-found c).Else-own-dependency) r.row_with-found.result (other-is (goal.at.returns-then-not-found c).After-row_with-found) (not-true _ (ap not c.if-not-found.true))
 
 found : (c : Else-not-found) → Met c.args.file.now (part ((c.row_behind-own.result.at + 568 + 344 * c.args.dependency) + 25) 38 c.args.file.now) c.row_with-found.result
 found c =
     let other-is : c.row_with-found.result ≡ numbered_of c.args.file.now (part ((c.row_behind-own.result.at + 568 + 344 * c.args.dependency) + 25) 38 c.args.file.now) = c.row_with-found.ensures ∙ ap (numbered_of c.args.file.now) c.serial_at-serial.ensures in
-    met _ _ c.row_with-found.result other-is (not-false _ c.if-not-found.false)
+    met _ _ c.row_with-found.result other-is (not-false _ (ap not c.if-not-found.false))
 
 pub overflow_add-subformat : goal.overflow_add-subformat
 overflow_add-subformat c =
@@ -85,8 +85,7 @@ overflow_add-at-4 c = let e = c in omega (arith, inside (goal.at.overflow_add-at
 
 pub agree-requires : goal.agree-requires
 agree-requires c =
-    let w = found (goal.at.agree-requires c).Else-not-found in
-    (omega (arith, inside (goal.at.agree-requires c).Else-own-dependency), omega (arith, w.lies.dependencies-inside, w.place_is))
+    let w = found (goal.at.agree-requires c).Else-not-found in record { a_in_bounds = omega (arith, inside (goal.at.agree-requires c).Else-own-dependency); b_in_bounds = omega (arith, w.lies.dependencies-inside, w.place_is) }
 
 pub returns : goal.returns
 returns c =

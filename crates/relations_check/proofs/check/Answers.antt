@@ -10,6 +10,7 @@ use Rattle.walk.proofs.Named.{Named, named, named-at}
 use Rattle.relations_check.specs.Latest.{AtRow}
 use Rattle.relations_check.proofs.Choosing.{named-row-at}
 use Rattle.relations_check.proofs.Judgings.{refused-row, refused-19, check-is}
+use mathlib.Core.Bool.{not}
 use Rattle.relations_check.proofs.check.Goals as goal
 use Rattle.relations_check.proofs.check.Goals.{After-is_relations, Else-own-ne0}
 
@@ -39,7 +40,7 @@ is_one c =
 pub returns-then-not-is_relations : goal.returns-then-not-is_relations
 returns-then-not-is_relations c =
     let n = c in
-    refused-19 _ _ _ _ (own (goal.at.returns-then-not-is_relations c).Else-own-ne0) _ (is_one (goal.at.returns-then-not-is_relations c).After-is_relations) (not-true _ c.if-not-is_relations.true)
+    refused-19 _ _ _ _ (own (goal.at.returns-then-not-is_relations c).Else-own-ne0) _ (is_one (goal.at.returns-then-not-is_relations c).After-is_relations) (not-true _ (ap not c.if-not-is_relations.true))
 
 pub last-end-requires : goal.last-end-requires
 last-end-requires c = let e = c in named-at (own (goal.at.last-end-requires c).Else-own-ne0) e.row_of-own.ensures.1
@@ -50,8 +51,7 @@ contents-requires c = here (goal.at.contents-requires c).Else-own-ne0
 pub check_text-requires : goal.check_text-requires
 check_text-requires c =
     let l = c in
-    let e = l in
-    (l.last-end.ensures.0, ((here (goal.at.check_text-requires c).Else-own-ne0).small, l.last-end.ensures.1))
+    let e = l in record { ended = l.last-end.ensures.0; file_len_bound = (here (goal.at.check_text-requires c).Else-own-ne0).small; d_len = l.last-end.ensures.1 }
 
 pub returns : goal.returns
 returns c =
@@ -61,5 +61,5 @@ returns c =
     let e = m in
     let w = own (goal.at.returns c).Else-own-ne0 in
     t.check_text.ensures
-    ∙ check-is _ _ _ _ w _ (is_one (goal.at.returns c).After-is_relations) (not-false _ m.if-not-is_relations.false) _
+    ∙ check-is _ _ _ _ w _ (is_one (goal.at.returns c).After-is_relations) (not-false _ (ap not m.if-not-is_relations.false)) _
     (o.contents.ensures ∙ ap (λ k. row_contents e.args.file.now (row_no (rows_of e.args.file.now) k)) w.row_is)

@@ -11,6 +11,7 @@ use Rattle.metafile.specs.Bytes.{same}
 use Rattle.metafile.specs.Lines.{first_of}
 use Rattle.metafile.specs.Relations.{split_on, heading}
 use Rattle.relations_check.proofs.Judgings.{judging-none, judging-tail, judged-tail, first-line, text-20, text-18, text-checked}
+use mathlib.Core.Bool.{not}
 use Rattle.relations_check.proofs.check_text.Goals as goal
 use Rattle.relations_check.proofs.check_text.Goals.{After-is_heading, Else-verdicts-n}
 
@@ -26,13 +27,13 @@ heads c =
     c.is_heading.ensures ∙ ap (λ (v : List ℕ). same v heading) (sym (first-line c.args.text.now e.line_end.result (e.line_end.ensures.0 ∙ zero-add _)))
 
 pub returns-then-not-is_heading : goal.returns-then-not-is_heading
-returns-then-not-is_heading c = text-20 _ _ _ _ (heads (goal.at.returns-then-not-is_heading c).After-is_heading) (not-true _ c.if-not-is_heading.true)
+returns-then-not-is_heading c = text-20 _ _ _ _ (heads (goal.at.returns-then-not-is_heading c).After-is_heading) (not-true _ (ap not c.if-not-is_heading.true))
 
 pub returns-then-verdicts-n : goal.returns-then-verdicts-n
 returns-then-verdicts-n c =
     let n = c in
     let h = n in
-    text-18 _ _ _ _ (heads (goal.at.returns-then-verdicts-n c).After-is_heading) (not-false _ h.if-not-is_heading.false) _ n.count-n.ensures c.if-verdicts-n.true
+    text-18 _ _ _ _ (heads (goal.at.returns-then-verdicts-n c).After-is_heading) (not-false _ (ap not h.if-not-is_heading.false)) _ n.count-n.ensures c.if-verdicts-n.true
 
 room : (c : Else-verdicts-n) → c.count-n.result ≤ length c.args.verdicts.now
 room c = omega (arith, c.if-verdicts-n.false)
@@ -45,8 +46,7 @@ put_forms-requires c =
 pub judge_rows-requires : goal.judge_rows-requires
 judge_rows-requires c =
     let p = c in
-    let k = p in
-    (k.pre.0, (k.pre.1.0, (k.pre.1.1, judging-none _ _ _ _ p.put_forms.ensures)))
+    let k = p in record { ended = k.requires.ended; file_len_bound = k.requires.file_len_bound; d_len = k.requires.d_len; judging = judging-none _ _ _ _ p.put_forms.ensures }
 
 pub returns : goal.returns
 returns c =

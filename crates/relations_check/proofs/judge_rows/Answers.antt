@@ -9,7 +9,7 @@ use Rattle.relations_check.proofs.judge_rows.Goals as goal
 pub loop-k-init : goal.loop-k-init
 loop-k-init c =
     let k = c in
-    (omega arith, k.requires.0.begun, k.requires.1.1.0, refl, k.requires.1.1.1, refl)
+    (omega arith, k.requires.ended.begun, k.requires.d_len, refl, k.requires.judging, refl)
 
 pub clear-requires : goal.clear-requires
 clear-requires c = c.loop-k.inv.2
@@ -18,20 +18,18 @@ pub fill-w-requires : goal.fill-w-requires
 fill-w-requires c =
     let e = c in
     let t = e in
-    let k = t in
-    (k.pre.0.count, (t.loop-k.invariant.1 (omega (arith, t.loop-k-test.true)), (t.loop-k-test.true, (k.pre.1.0, e.clear.ensures))))
+    let k = t in record { rows_value = k.requires.ended.count; behind = t.loop-k.invariant.1 (omega (arith, t.loop-k-test.true)); from_lt_rows = t.loop-k-test.true; file_len_bound = k.requires.file_len_bound; empty = e.clear.ensures }
 
 pub judge-requires : goal.judge-requires
 judge-requires c =
     let f = c in
     let t = f in
-    let w = f.fill-w.ensures in
-    (w.window, rw w.from_is t.loop-k.invariant.4)
+    let w = f.fill-w.ensures in record { window_of = w.window; judging = rw w.from_is t.loop-k.invariant.4 }
 
 pub overflow_add-k : goal.overflow_add-k
 overflow_add-k c =
     let k = c in
-    omega (arith, c.fill-w.ensures.window.rows, file-few k.args.file.now, k.pre.1.0)
+    omega (arith, c.fill-w.ensures.window.rows, file-few k.args.file.now, k.requires.file_len_bound)
 
 pub loop-k-smaller : goal.loop-k-smaller
 loop-k-smaller c = let w = c.fill-w.ensures in omega (arith, w.some, w.from_is, c.loop-k-test.true)
@@ -42,7 +40,7 @@ loop-k-preserved c =
     let k = l in
     let w = c.fill-w.ensures in
     let e = c.judge.ensures in (
-      omega (arith, w.window.rows, k.pre.0.count),
+      omega (arith, w.window.rows, k.requires.ended.count),
       (λ some. w.behind),
       w.window.holds.long,
       judging-length _ _ _ _ _ _ l.loop-k.inv.4 e ∙ l.loop-k.inv.3,
@@ -51,7 +49,7 @@ loop-k-preserved c =
     )
 
 pub shape_of-d : goal.shape_of-d
-shape_of-d c = let l = c in l.loop-k.invariant.2 ∙ sym l.requires.1.1.0
+shape_of-d c = let l = c in l.loop-k.invariant.2 ∙ sym l.requires.d_len
 
 pub shape_of-verdicts : goal.shape_of-verdicts
 shape_of-verdicts c = c.loop-k.invariant.3
@@ -60,4 +58,4 @@ pub returns : goal.returns
 returns c =
     let l = c in
     let k = l in
-    judging-all _ _ _ _ _ (omega (arith, l.loop-k.invariant.0, c.loop-k-test.false, k.pre.0.count)) l.loop-k.invariant.4 l.loop-k.invariant.5
+    judging-all _ _ _ _ _ (omega (arith, l.loop-k.invariant.0, c.loop-k-test.false, k.requires.ended.count)) l.loop-k.invariant.4 l.loop-k.invariant.5

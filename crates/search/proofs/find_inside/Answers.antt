@@ -44,7 +44,7 @@ loop-p-preserved c =
     c.find_byte-p-in-loop-p.ensures
 
 pub overflow_add-p-in-loop-p : goal.overflow_add-p-in-loop-p
-overflow_add-p-in-loop-p c = omega (arith, (loop-again c).0)
+overflow_add-p-in-loop-p c = omega (arith, (loop-p-preserved c).0)
 
 pub loop-p-smaller : goal.loop-p-smaller
 loop-p-smaller c = omega arith

@@ -43,4 +43,4 @@ returns c =
 pub overflow_add-result : goal.overflow_add-result
 overflow_add-result c =
     let args = c.args in
-    omega (arith, returns-3 c, find-fits args.mark.now (args.text.now ++ args.tail.now), length-append args.text.now args.tail.now)
+    omega (arith, returns c, find-fits args.mark.now (args.text.now ++ args.tail.now), length-append args.text.now args.tail.now)

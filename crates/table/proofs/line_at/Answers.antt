@@ -146,5 +146,5 @@ returns-in-22 c =
 pub returns-in_default : goal.returns-in_default
 unfolding codes code_no None
 returns-in_default c =
-    let e : c.args.i ≡ 23 = last _ c.requires c.in-0.rest in
+    let e : c.args.i ≡ 23 = omega arith in
     rw e

@@ -16,6 +16,6 @@ returns c =
     let long = put in
     let args = long.args in
     let same = ap (λ (n : ℕ). digits_of n args.x) long.decimal_length.ensures ∙ sym (decimal-digits args.x) in
-    put_word (decimal args.x) args.buffer-1.now put.put_number-digits_end.new.buffer args.at put.put_number-digits_end.result args.behind
+    put_word (decimal args.x) args.buffer.now put.put_number-digits_end.new.buffer args.at put.put_number-digits_end.result args.behind
     long.requires (omega (arith, put.put_number-digits_end.ensures.0, long.decimal_length.ensures))
-    (put.put_number-digits_end.ensures.1 ∙ ap (λ (v : List ℕ). placed args.at v args.buffer-1.now) same)
+    (put.put_number-digits_end.ensures.1 ∙ ap (λ (v : List ℕ). placed args.at v args.buffer.now) same)

@@ -8,4 +8,4 @@ returns c =
     let put = c in
     let start = put in
     let args = start.args in
-    (puts.put_word args.word.now args.buffer-1.now put.put_bytes-end.new.buffer args.at put.put_bytes-end.result args.behind start.requires put.put_bytes-end.ensures.0 put.put_bytes-end.ensures.1, omega (arith, put.put_bytes-end.ensures.0))
+    (puts.put_word args.word.now args.buffer.now put.put_bytes-end.new.buffer args.at put.put_bytes-end.result args.behind start.requires put.put_bytes-end.ensures.0 put.put_bytes-end.ensures.1, omega (arith, put.put_bytes-end.ensures.0))

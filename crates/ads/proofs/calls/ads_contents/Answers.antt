@@ -3,4 +3,4 @@ use Rattle.contents.proofs.Answers.{part-outcome}
 use Rattle.ads.proofs.calls.ads_contents.Goals as goal
 
 pub returns : goal.returns
-returns c = (part-outcome _ _ c.part_of.result c.part_of.ensures, c.part_of.ensures)
+returns c = record { answer = part-outcome _ _ c.part_of.result c.part_of.ensures; names = c.part_of.ensures }

@@ -10,13 +10,14 @@ unfolding gather_answer
 returns-in-Joined c =
     let call = c.gather-answer in
     let after = call.new.buffer in
-    written-done after _ c.in-Joined.length (ap (λ a. outcome (gather_answer a) after) (sym c.in-Joined.is) ∙ call.ensures)
+    let asked = written-done after _ c.in-Joined.length (ap (λ a. outcome (gather_answer a) after) (sym c.in-Joined.is) ∙ call.ensures) in record { answer = asked.0; alone = asked.1 }
 
 pub returns-in-Refused : goal.returns-in-Refused
 unfolding gather_answer
 returns-in-Refused c =
     let call = c.gather-answer in
     let after = call.new.buffer in
-    let n = c.in-Refused.number in
+    let n = c.in
+    let asked = -Refused.number in
     let e = ap (λ a. outcome (gather_answer a) after) (sym c.in-Refused.is) ∙ call.ensures in
-    written-refused after _ n (gather-numbered _ _ _ _ n after e) e
+    written-refused after _ n (gather-numbered _ _ _ _ n after e) e in record { answer = asked.0; alone = asked.1 }

@@ -10,13 +10,14 @@ unfolding listing_answer
 returns-in-Written c =
     let call = c.listing-answer in
     let after = call.new.buffer in
-    written-done after _ c.in-Written.length (ap (λ a. outcome (listing_answer a) after) (sym c.in-Written.is) ∙ call.ensures)
+    let asked = written-done after _ c.in-Written.length (ap (λ a. outcome (listing_answer a) after) (sym c.in-Written.is) ∙ call.ensures) in record { answer = asked.0; alone = asked.1 }
 
 pub returns-in-Refused : goal.returns-in-Refused
 unfolding listing_answer
 returns-in-Refused c =
     let call = c.listing-answer in
     let after = call.new.buffer in
-    let n = c.in-Refused.number in
+    let n = c.in
+    let asked = -Refused.number in
     let e = ap (λ a. outcome (listing_answer a) after) (sym c.in-Refused.is) ∙ call.ensures in
-    written-refused after _ n (listing-numbered _ _ n after e) e
+    written-refused after _ n (listing-numbered _ _ n after e) e in record { answer = asked.0; alone = asked.1 }

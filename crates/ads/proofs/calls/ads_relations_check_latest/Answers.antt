@@ -9,13 +9,14 @@ unfolding relations_latest_answer
 returns-in-Checked c =
     let call = c.check_latest-answer in
     let after = call.new.verdicts in
-    counted-row-done after _ c.in-Checked.count c.in-Checked.row (ap (λ a. outcome (relations_latest_answer a) after) (sym c.in-Checked.is) ∙ call.ensures)
+    let asked = counted-row-done after _ c.in-Checked.count c.in-Checked.row (ap (λ a. outcome (relations_latest_answer a) after) (sym c.in-Checked.is) ∙ call.ensures) in record { answer = asked.0; alone = asked.1 }
 
 pub returns-in-Refused : goal.returns-in-Refused
 unfolding relations_latest_answer
 returns-in-Refused c =
     let call = c.check_latest-answer in
     let after = call.new.verdicts in
-    let n = c.in-Refused.number in
+    let n = c.in
+    let asked = -Refused.number in
     let e = ap (λ a. outcome (relations_latest_answer a) after) (sym c.in-Refused.is) ∙ call.ensures in
-    counted-row-refused after _ n (relations-latest-numbered _ _ n after e) e
+    counted-row-refused after _ n (relations-latest-numbered _ _ n after e) e in record { answer = asked.0; alone = asked.1 }

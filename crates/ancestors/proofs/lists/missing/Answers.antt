@@ -22,7 +22,7 @@ bounds-counts-i c = omega arith
 pub overflow_add-sum : goal.overflow_add-sum
 overflow_add-sum c =
     let t = c in
-    let s = t.requires.1 in
+    let s = t.requires.small in
     omega (arith, t.loop-i.invariant.most, s.few, s.small _ t.loop-i-test.true)
 
 pub overflow_add-i : goal.overflow_add-i
@@ -37,7 +37,7 @@ loop-i-preserved c =
     let t = c in
     let w = t.loop-i.invariant in
     ⊎_elim
-    (λ v. rw v.2 (adding-in _ _ w t.loop-i-test.true t.requires.1 (eq-eqb _ _ v.0.taken)))
+    (λ v. rw v.2 (adding-in _ _ w t.loop-i-test.true t.requires.small (eq-eqb _ _ v.0.taken)))
     (λ v. rw v.1 (adding-out _ _ w t.loop-i-test.true (ne_eqb _ _ v.0.left)))
     c.if-marks-i-eq-DONE.branch
 

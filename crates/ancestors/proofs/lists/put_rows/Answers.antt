@@ -19,7 +19,7 @@ put : (c : Then-is_listed) → c.loop-i.used < length c.loop-i.list
 put c =
     let t = c in
     let l = t in
-    let room = l.requires.1 in
+    let room = l.requires.n_in_bounds_2 in
     let w = l.loop-i.invariant.0 in
     omega (
       arith,
@@ -35,7 +35,7 @@ offset_bounds-list-used c =
       arith,
       put c,
       l.well-formed,
-      put-long _ _ l.args.list.now l.loop-i.list l.loop-i.i l.args.n l.loop-i.invariant.0.few l.requires.1 l.loop-i.invariant.1,
+      put-long _ _ l.args.list.now l.loop-i.list l.loop-i.i l.args.n l.loop-i.invariant.0.few l.requires.n_in_bounds_2 l.loop-i.invariant.1,
     )
 
 pub bounds-list-used : goal.bounds-list-used
@@ -60,7 +60,7 @@ loop-i-preserved c =
     ⊎_elim
     (λ v.
     let e = sym is ∙ v.0.taken in
-    rw (v.1, v.2) (counting-in _ _ w less e, rw l.loop-i.invariant.1 (put_in _ _ _ _ _ _ less e l.requires.1 w.is)))
+    rw (v.1, v.2) (counting-in _ _ w less e, rw l.loop-i.invariant.1 (put_in _ _ _ _ _ _ less e l.requires.n_in_bounds_2 w.is)))
     (λ v.
     let e = sym is ∙ v.0.left in
     rw (v.1, v.2) (counting-out _ _ w less e, l.loop-i.invariant.1 ∙ put-out _ _ _ _ e))
@@ -69,7 +69,7 @@ loop-i-preserved c =
 pub shape_of-list : goal.shape_of-list
 shape_of-list c =
     let l = c in
-    put-long _ _ _ _ _ _ l.loop-i.invariant.0.few l.requires.1 l.loop-i.invariant.1
+    put-long _ _ _ _ _ _ l.loop-i.invariant.0.few l.requires.n_in_bounds_2 l.loop-i.invariant.1
 
 pub returns : goal.returns
 returns c =

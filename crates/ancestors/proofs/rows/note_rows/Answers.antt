@@ -16,20 +16,19 @@ first-c-requires c = indexed-none c.args.file.now 0
 pub loop-c-init : goal.loop-c-init
 loop-c-init c =
     let f = c in
-    let p = f.pre in
-    (f.first-c.ensures.0, rw f.first-c.ensures.1 (noted-none _ p.0 p.1.0 p.1.1))
+    let p = f.requires in
+    (f.first-c.ensures.0, rw f.first-c.ensures.1 (noted-none _ p.places_len p.serials_len p.counts_len))
 
 pub note-requires : goal.note-requires
 note-requires c =
     let t = c in
-    let l = t in
-    (l.loop-c.invariant.0.is, (t.loop-c-test.true, l.loop-c.invariant.1))
+    let l = t in record { c_value = l.loop-c.invariant.0.is; go_value = t.loop-c-test.true; noted = l.loop-c.invariant.1 }
 
 pub slice_bounds-next-end : goal.slice_bounds-next-end
 slice_bounds-next-end c = sym (index-long c.loop-c.invariant.0.indexed)
 
 pub next-c-requires : goal.next-c-requires
-next-c-requires c = (c.loop-c.invariant.0, c.loop-c-test.true)
+next-c-requires c = record { at = c.loop-c.invariant.0; go_value = c.loop-c-test.true }
 
 pub loop-c-smaller : goal.loop-c-smaller
 loop-c-smaller c =
@@ -43,13 +42,13 @@ loop-c-preserved c =
     (n.next-c.ensures.0, rw n.next-c.ensures.1 e)
 
 pub shape_of-places : goal.shape_of-places
-shape_of-places c = c.loop-c.invariant.1.places-long ∙ sym c.pre.0
+shape_of-places c = c.loop-c.invariant.1.places-long ∙ sym c.requires.places_len
 
 pub shape_of-serials : goal.shape_of-serials
-shape_of-serials c = c.loop-c.invariant.1.serials-long ∙ sym c.pre.1.0
+shape_of-serials c = c.loop-c.invariant.1.serials-long ∙ sym c.requires.serials_len
 
 pub shape_of-counts : goal.shape_of-counts
-shape_of-counts c = c.loop-c.invariant.1.counts-long ∙ sym c.pre.1.1
+shape_of-counts c = c.loop-c.invariant.1.counts-long ∙ sym c.requires.counts_len
 
 pub returns : goal.returns
 returns c =

@@ -16,10 +16,10 @@ pub loop-i-init : goal.loop-i-init
 loop-i-init c = omega arith
 
 pub offset_bounds-serials-i : goal.offset_bounds-serials-i
-offset_bounds-serials-i c = omega (arith, c.good, c.pre.0.few, c.pre.0.long)
+offset_bounds-serials-i c = omega (arith, c.good, c.requires.serials.few, c.requires.serials.long)
 
 pub bounds-serials-i : goal.bounds-serials-i
-bounds-serials-i c = let s = c in omega (arith, s.pre.0.few, s.pre.0.long)
+bounds-serials-i c = let s = c in omega (arith, s.requires.serials.few, s.requires.serials.long)
 
 pub slice_bounds-same_bytes-count : goal.slice_bounds-same_bytes-count
 slice_bounds-same_bytes-count c = omega arith
@@ -28,12 +28,12 @@ pub slice_bounds-same_bytes-start : goal.slice_bounds-same_bytes-start
 slice_bounds-same_bytes-start c = omega arith
 
 pub slice_bounds-same_bytes-end : goal.slice_bounds-same_bytes-end
-slice_bounds-same_bytes-end c = omega (arith, c.pre.1)
+slice_bounds-same_bytes-end c = omega (arith, c.requires.serial_in_bounds)
 
 -- the serial number of row i stands inside the file
 own-inside : (c : After-shared_slice_known-in-loop-i-1)
     → get_or c.args.serials.now c.loop-i.i 0 + 38 ≤ length c.args.file.now
-own-inside c = let l = c in (l.requires.0.all l.loop-i.i c.loop-i-test.true).inside
+own-inside c = let l = c in (l.requires.serials.all l.loop-i.i c.loop-i-test.true).inside
 
 pub overflow_add-own : goal.overflow_add-own
 overflow_add-own c = omega (arith, own-inside (goal.at.overflow_add-own c).After-shared_slice_known-in-loop-i-1, c.good)
@@ -59,7 +59,7 @@ same-is c =
 pub returns-then-same_bytes : goal.returns-then-same_bytes
 returns-then-same_bytes c =
     let t = c in
-    with-found t.pre.0 _ _ t.loop-i-test.taken _ (same-is (goal.at.returns-then-same_bytes c).After-same_bytes) c.if-same_bytes.true
+    with-found t.requires.serials _ _ t.loop-i-test.taken _ (same-is (goal.at.returns-then-same_bytes c).After-same_bytes) c.if-same_bytes.true
 
 pub overflow_add-i : goal.overflow_add-i
 overflow_add-i c = omega arith
@@ -70,7 +70,7 @@ loop-i-smaller c = omega arith
 pub loop-i-preserved : goal.loop-i-preserved
 loop-i-preserved c =
     let t = c in
-    with-passed t.pre.0 _ _ t.loop-i-test.taken _ (same-is (goal.at.loop-i-preserved c).After-same_bytes) t.loop-i.inv c.if-same_bytes.false
+    with-passed t.requires.serials _ _ t.loop-i-test.taken _ (same-is (goal.at.loop-i-preserved c).After-same_bytes) t.loop-i.inv c.if-same_bytes.false
 
 pub returns : goal.returns
-returns c = let l = c in with-end l.requires.0 _ _ l.loop-i.invariant c.loop-i-test.false
+returns c = let l = c in with-end l.requires.serials _ _ l.loop-i.invariant c.loop-i-test.false

@@ -5,14 +5,16 @@ use borrow.Author.Tests.{not-true, not-false}
 use Rattle.metafile.specs.Append.{append_formed}
 use Rattle.writer.proofs.Described.{formed-fits}
 use Rattle.append.proofs.Held.{refused-6, refused-17, described}
+use mathlib.Core.Path.{ap}
+use mathlib.Core.Bool.{not}
 use Rattle.append.proofs.tests.description_refusal.Goals as goal
 use Rattle.append.proofs.tests.description_refusal.Goals.{Else-not-is_formed}
 
 in-form : (c : Else-not-is_formed) → append_formed c.args.d ≡ true
-in-form c = sym c.is_formed.ensures ∙ not-false _ c.if-not-is_formed.false
+in-form c = sym c.is_formed.ensures ∙ not-false _ (ap not c.if-not-is_formed.false)
 
 pub returns-then-not-is_formed : goal.returns-then-not-is_formed
-returns-then-not-is_formed c = refused-6 c.args.d (sym c.is_formed.ensures ∙ not-true _ c.if-not-is_formed.true)
+returns-then-not-is_formed c = refused-6 c.args.d (sym c.is_formed.ensures ∙ not-true _ (ap not c.if-not-is_formed.true))
 
 pub is_multichunk-requires : goal.is_multichunk-requires
 is_multichunk-requires c = (formed-fits c.args.d (in-form c)).name

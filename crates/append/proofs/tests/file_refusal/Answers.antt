@@ -10,11 +10,12 @@ use Rattle.metafile.specs.Header.{mark_of}
 use Rattle.writer.specs.Parents.{parents_refused}
 use Rattle.append.proofs.Files.{mark-room, mark-found}
 use Rattle.append.proofs.Held.{refused-13, refused-9, refused-15, held}
+use mathlib.Core.Bool.{not}
 use Rattle.append.proofs.tests.file_refusal.Goals as goal
 use Rattle.append.proofs.tests.file_refusal.Goals.{Else-parents_wrong, Start}
 
 clear-is : (s : Start) → all non_zero (mark_of s.args.file.now) ≡ all non_zero (take (65 + s.args.h.mark - 65) (drop 65 s.args.file.now))
-clear-is s = ap (all non_zero) (sym (mark-found s.args.file.now s.args.h s.requires.0 s.requires.1))
+clear-is s = ap (all non_zero) (sym (mark-found s.args.file.now s.args.h s.requires.h_value s.requires.number_value))
 
 right : (c : Else-parents_wrong) → parents_refused c.args.count c.args.parents.now ≡ false
 right c = sym c.parents_wrong.ensures ∙ c.if-parents_wrong.false
@@ -32,23 +33,23 @@ returns-then-known c =
 pub overflow_add-end : goal.overflow_add-end
 overflow_add-end c =
     let s = c in
-    omega (arith, mark-room s.args.file.now s.args.h s.requires.0 s.requires.1)
+    omega (arith, mark-room s.args.file.now s.args.h s.requires.h_value s.requires.number_value)
 
 pub slice_bounds-is_clear-end : goal.slice_bounds-is_clear-end
 slice_bounds-is_clear-end c =
     let s = c in
-    omega (arith, mark-room s.args.file.now s.args.h s.requires.0 s.requires.1)
+    omega (arith, mark-room s.args.file.now s.args.h s.requires.h_value s.requires.number_value)
 
 pub returns-then-not-is_clear : goal.returns-then-not-is_clear
 returns-then-not-is_clear c =
     let new = c in
     let start = new in
     refused-15 start.args.file.now start.args.count start.args.known start.args.parents.now (right (goal.at.returns-then-not-is_clear c).Else-parents_wrong) new.if-known.false
-    (clear-is (goal.at.returns-then-not-is_clear c).Start ∙ sym c.is_clear.ensures ∙ not-true _ c.if-not-is_clear.true)
+    (clear-is (goal.at.returns-then-not-is_clear c).Start ∙ sym c.is_clear.ensures ∙ not-true _ (ap not c.if-not-is_clear.true))
 
 pub returns : goal.returns
 returns c =
     let new = c in
     let start = new in
     held start.args.file.now start.args.count start.args.known start.args.parents.now (right (goal.at.returns c).Else-parents_wrong) new.if-known.false
-    (clear-is (goal.at.returns c).Start ∙ sym c.is_clear.ensures ∙ not-false _ c.if-not-is_clear.false)
+    (clear-is (goal.at.returns c).Start ∙ sym c.is_clear.ensures ∙ not-false _ (ap not c.if-not-is_clear.false))

@@ -21,13 +21,13 @@ widths s =
     }
 
 pub returns-then-name-gt-NAME : goal.returns-then-name-gt-NAME
-returns-then-name-gt-NAME c = unformed c.args.d (λ f. omega (arith, f.name-1, c.if-name-gt-NAME.true))
+returns-then-name-gt-NAME c = unformed c.args.d (λ f. omega (arith, f.name, c.if-name-gt-NAME.true))
 
 pub returns-then-recorder-gt-AGENT : goal.returns-then-recorder-gt-AGENT
-returns-then-recorder-gt-AGENT c = unformed c.args.d (λ f. omega (arith, f.recorder-1, c.if-recorder-gt-AGENT.true))
+returns-then-recorder-gt-AGENT c = unformed c.args.d (λ f. omega (arith, f.recorder, c.if-recorder-gt-AGENT.true))
 
 pub returns-then-writer-gt-AGENT : goal.returns-then-writer-gt-AGENT
-returns-then-writer-gt-AGENT c = unformed c.args.d (λ f. omega (arith, f.writer-1, c.if-writer-gt-AGENT.true))
+returns-then-writer-gt-AGENT c = unformed c.args.d (λ f. omega (arith, f.writer, c.if-writer-gt-AGENT.true))
 
 pub values_formed-requires : goal.values_formed-requires
 values_formed-requires c = (omega arith, rw given-size (search rules))

@@ -17,28 +17,30 @@ use Rattle.append.proofs.Files.{number_is, mark-length, mark-fits}
 use Rattle.append.proofs.Surveyed.{tests_of, surveyed-number, surveyed-stop, tests-are}
 use Rattle.chunk_laws.proofs.File.{clean-header}
 use Rattle.append.proofs.Refusals.{inside, buffer-small, specific-small, contents-small, parents-few, refused-12, refused-own, refused-there, refused-16, refused-18, not-refused}
+use mathlib.Core.Path.{ap}
+use mathlib.Core.Bool.{not}
 use Rattle.append.proofs.tests.refusal.Goals as goal
 use Rattle.append.proofs.tests.refusal.Goals.{Else-not-is_clean, Else-open_wrong, Else-own-ne0, Else-there-ne0, Start}
 
 -- 11
 lent : (s : Start) → append_over_limit s.args.buffer.now s.args.length (given_of s.args.d s.args.parents.now s.args.specific.now s.args.contents.now s.args.«open») ≡ false
-lent s = s.requires.0
+lent s = s.requires.open_value
 
 within : (s : Start) → s.args.length ≤ length s.args.buffer.now
 within s = inside s.args.buffer.now s.args.length (given_of s.args.d s.args.parents.now s.args.specific.now s.args.contents.now s.args.«open») (lent s)
 
 -- 13, 9 and 15 by the survey
 surveyed : (s : Start) → first_refusal (file_tests (take s.args.length s.args.buffer.now) s.args.survey.count s.args.survey.known s.args.parents.now) ≡ first_refusal (tests_of (take s.args.length s.args.buffer.now) s.args.parents.now s.args.d.serial)
-surveyed s = tests-are (take s.args.length s.args.buffer.now) s.args.d.serial s.args.parents.now s.args.survey s.requires.1
+surveyed s = tests-are (take s.args.length s.args.buffer.now) s.args.d.serial s.args.parents.now s.args.survey s.requires.survey_value
 
 -- 12
 clean : (c : Else-not-is_clean) → is_clean (take c.args.length c.args.buffer.now) (reading (take c.args.length c.args.buffer.now)) ≡ true
-clean c = sym c.is_clean.ensures ∙ not-false _ c.if-not-is_clean.false
+clean c = sym c.is_clean.ensures ∙ not-false _ (ap not c.if-not-is_clean.false)
 
 -- 6 and 17
 fault : (c : Else-own-ne0) → header_fault (take c.args.length c.args.buffer.now) ≡ 0
 fault c =
-    let clean : is_clean (take c.args.length c.args.buffer.now) (reading (take c.args.length c.args.buffer.now)) ≡ true = sym c.is_clean.ensures ∙ not-false _ c.if-not-is_clean.false in
+    let clean : is_clean (take c.args.length c.args.buffer.now) (reading (take c.args.length c.args.buffer.now)) ≡ true = sym c.is_clean.ensures ∙ not-false _ (ap not c.if-not-is_clean.false) in
     clean-header (take c.args.length c.args.buffer.now) clean
 
 own : (c : Else-own-ne0) → first_refusal (description_tests c.args.d) ≡ 0
@@ -47,18 +49,18 @@ own c = sym c.description_refusal-own.ensures ∙ c.if-own-ne0.false
 -- 13, 9 and 15
 there : (c : Else-there-ne0) → first_refusal (tests_of (take c.args.length c.args.buffer.now) c.args.parents.now c.args.d.serial) ≡ 0
 there c =
-    let surveyed : first_refusal (file_tests (take c.args.length c.args.buffer.now) c.args.survey.count c.args.survey.known c.args.parents.now) ≡ first_refusal (tests_of (take c.args.length c.args.buffer.now) c.args.parents.now c.args.d.serial) = tests-are (take c.args.length c.args.buffer.now) c.args.d.serial c.args.parents.now c.args.survey c.requires.1 in
+    let surveyed : first_refusal (file_tests (take c.args.length c.args.buffer.now) c.args.survey.count c.args.survey.known c.args.parents.now) ≡ first_refusal (tests_of (take c.args.length c.args.buffer.now) c.args.parents.now c.args.d.serial) = tests-are (take c.args.length c.args.buffer.now) c.args.d.serial c.args.parents.now c.args.survey c.requires.survey_value in
     sym (c.file_refusal-there.ensures ∙ surveyed) ∙ c.if-there-ne0.false
 
 mark-room : (c : Else-there-ne0) → 65 + c.header-h.result.mark ≤ length (take c.args.length c.args.buffer.now)
 mark-room c =
-    let fault : header_fault (take c.args.length c.args.buffer.now) ≡ 0 = let clean : is_clean (take c.args.length c.args.buffer.now) (reading (take c.args.length c.args.buffer.now)) ≡ true = sym c.is_clean.ensures ∙ not-false _ c.if-not-is_clean.false in
+    let fault : header_fault (take c.args.length c.args.buffer.now) ≡ 0 = let clean : is_clean (take c.args.length c.args.buffer.now) (reading (take c.args.length c.args.buffer.now)) ≡ true = sym c.is_clean.ensures ∙ not-false _ (ap not c.if-not-is_clean.false) in
     clean-header (take c.args.length c.args.buffer.now) clean in
     mark-fits (take c.args.length c.args.buffer.now) c.header-h.result c.header-h.ensures fault
 
 mark-long : (c : Else-there-ne0) → c.header-h.result.mark ≡ length (mark_of (take c.args.length c.args.buffer.now))
 mark-long c =
-    let fault : header_fault (take c.args.length c.args.buffer.now) ≡ 0 = let clean : is_clean (take c.args.length c.args.buffer.now) (reading (take c.args.length c.args.buffer.now)) ≡ true = sym c.is_clean.ensures ∙ not-false _ c.if-not-is_clean.false in
+    let fault : header_fault (take c.args.length c.args.buffer.now) ≡ 0 = let clean : is_clean (take c.args.length c.args.buffer.now) (reading (take c.args.length c.args.buffer.now)) ≡ true = sym c.is_clean.ensures ∙ not-false _ (ap not c.if-not-is_clean.false) in
     clean-header (take c.args.length c.args.buffer.now) clean in
     mark-length (take c.args.length c.args.buffer.now) c.header-h.result c.header-h.ensures fault
 
@@ -72,14 +74,14 @@ slice_bounds-file-end c = sym (length-take-le c.args.length c.args.buffer.now (w
 pub is_clean-requires : goal.is_clean-requires
 is_clean-requires c =
     let start = c in (
-      surveyed-number (take start.args.length start.args.buffer.now) start.args.d.serial start.args.parents.now start.args.survey start.pre.1,
-      surveyed-stop (take start.args.length start.args.buffer.now) start.args.d.serial start.args.parents.now start.args.survey start.pre.1,
+      surveyed-number (take start.args.length start.args.buffer.now) start.args.d.serial start.args.parents.now start.args.survey start.requires.survey_value,
+      surveyed-stop (take start.args.length start.args.buffer.now) start.args.d.serial start.args.parents.now start.args.survey start.requires.survey_value,
     )
 
 pub returns-then-not-is_clean : goal.returns-then-not-is_clean
 returns-then-not-is_clean c =
     let start = c in
-    refused-12 start.args.buffer.now start.args.length (given_of start.args.d start.args.parents.now start.args.specific.now start.args.contents.now start.args.«open») (lent (goal.at.returns-then-not-is_clean c).Start) (sym c.is_clean.ensures ∙ not-true _ c.if-not-is_clean.true)
+    refused-12 start.args.buffer.now start.args.length (given_of start.args.d start.args.parents.now start.args.specific.now start.args.contents.now start.args.«open») (lent (goal.at.returns-then-not-is_clean c).Start) (sym c.is_clean.ensures ∙ not-true _ (ap not c.if-not-is_clean.true))
 
 pub returns-then-own-ne0 : goal.returns-then-own-ne0
 returns-then-own-ne0 c =
@@ -88,8 +90,7 @@ returns-then-own-ne0 c =
     c.description_refusal-own.result c.description_refusal-own.ensures c.if-own-ne0.true
 
 pub file_refusal-there-requires : goal.file_refusal-there-requires
-file_refusal-there-requires c =
-    (c.header-h.ensures, number_is (take c.args.length c.args.buffer.now) c.header-h.result c.header-h.ensures (fault (goal.at.file_refusal-there-requires c).Else-own-ne0))
+file_refusal-there-requires c = record { h_value = c.header-h.ensures; number_value = number_is (take c.args.length c.args.buffer.now) c.header-h.result c.header-h.ensures (fault (goal.at.file_refusal-there-requires c).Else-own-ne0) }
 
 pub returns-then-there-ne0 : goal.returns-then-there-ne0
 returns-then-there-ne0 c =
@@ -98,8 +99,7 @@ returns-then-there-ne0 c =
     c.file_refusal-there.result (c.file_refusal-there.ensures ∙ surveyed (goal.at.returns-then-there-ne0 c).Start) c.if-there-ne0.true
 
 pub open_wrong-requires : goal.open_wrong-requires
-open_wrong-requires c =
-    (c.header-h.ensures, number_is (take c.args.length c.args.buffer.now) c.header-h.result c.header-h.ensures (fault (goal.at.open_wrong-requires c).Else-own-ne0))
+open_wrong-requires c = record { h_value = c.header-h.ensures; number_value = number_is (take c.args.length c.args.buffer.now) c.header-h.result c.header-h.ensures (fault (goal.at.open_wrong-requires c).Else-own-ne0) }
 
 pub returns-then-open_wrong : goal.returns-then-open_wrong
 returns-then-open_wrong c =

@@ -12,11 +12,11 @@ use Rattle.append.proofs.write.put_chunk.Goals as goal
 use Rattle.append.proofs.write.put_chunk.Goals.{After-closing_values-values, After-header-h, After-mark_of-mark, Start}
 
 accepted : (s : Start) → Going s.args.buffer.now s.args.length (given_of s.args.d s.args.parents.now s.args.specific.now s.args.contents.now s.args.«open»)
-accepted s = going s.args.buffer.now s.args.length (given_of s.args.d s.args.parents.now s.args.specific.now s.args.contents.now s.args.«open») s.requires.0
+accepted s = going s.args.buffer.now s.args.length (given_of s.args.d s.args.parents.now s.args.specific.now s.args.contents.now s.args.«open») s.requires.open_value
 
 mark-few : (h : After-header-h) → h.header-h.result.mark ≤ 999
 mark-few h =
-    let accepted : Going h.args.buffer.now h.args.length (given_of h.args.d h.args.parents.now h.args.specific.now h.args.contents.now h.args.«open») = going h.args.buffer.now h.args.length (given_of h.args.d h.args.parents.now h.args.specific.now h.args.contents.now h.args.«open») h.requires.0 in
+    let accepted : Going h.args.buffer.now h.args.length (given_of h.args.d h.args.parents.now h.args.specific.now h.args.contents.now h.args.«open») = going h.args.buffer.now h.args.length (given_of h.args.d h.args.parents.now h.args.specific.now h.args.contents.now h.args.«open») h.requires.open_value in
     let start = h in
     omega (arith, (parts (take start.args.length start.args.buffer.now) h.header-h.result h.header-h.ensures accepted.begun).mark-is, mark-small (take start.args.length start.args.buffer.now) accepted.begun)
 
@@ -28,7 +28,7 @@ values-wide v = search rules
 
 mark-taken : (m : After-mark_of-mark) → length (take m.header-h.result.mark m.mark_of-mark.result) ≡ m.header-h.result.mark
 mark-taken m =
-    let mark-few : m.header-h.result.mark ≤ 999 = let accepted : Going m.args.buffer.now m.args.length (given_of m.args.d m.args.parents.now m.args.specific.now m.args.contents.now m.args.«open») = going m.args.buffer.now m.args.length (given_of m.args.d m.args.parents.now m.args.specific.now m.args.contents.now m.args.«open») m.requires.0 in
+    let mark-few : m.header-h.result.mark ≤ 999 = let accepted : Going m.args.buffer.now m.args.length (given_of m.args.d m.args.parents.now m.args.specific.now m.args.contents.now m.args.«open») = going m.args.buffer.now m.args.length (given_of m.args.d m.args.parents.now m.args.specific.now m.args.contents.now m.args.«open») m.requires.open_value in
     let start = m in
     omega (arith, (parts (take start.args.length start.args.buffer.now) m.header-h.result m.header-h.ensures accepted.begun).mark-is, mark-small (take start.args.length start.args.buffer.now) accepted.begun) in
     length-take-le m.header-h.result.mark m.mark_of-mark.result (omega (arith, mark-few, mark-wide m))
@@ -56,8 +56,7 @@ closing_values-values-requires c =
 pub put_header-first-requires : goal.put_header-first-requires
 put_header-first-requires c =
     let h = c in
-    let start = h in
-    (start.requires.0, (mark-length (take start.args.length start.args.buffer.now) h.header-h.result h.header-h.ensures (accepted (goal.at.put_header-first-requires c).Start).begun, start.requires.1))
+    let start = h in record { open_value = start.requires.open_value; mark_value = mark-length (take start.args.length start.args.buffer.now) h.header-h.result h.header-h.ensures (accepted (goal.at.put_header-first-requires c).Start).begun; survey_value = start.requires.survey_value }
 
 pub put_bytes-second-requires : goal.put_bytes-second-requires
 put_bytes-second-requires c =

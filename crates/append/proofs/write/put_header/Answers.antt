@@ -10,7 +10,7 @@ use Rattle.append.proofs.write.put_header.Goals as goal
 use Rattle.append.proofs.write.put_header.Goals.{Start}
 
 accepted : (s : Start) → Going s.args.buffer.now s.args.length (given_of s.args.d s.args.parents.now s.args.specific.now s.args.contents.now s.args.«open»)
-accepted s = going s.args.buffer.now s.args.length (given_of s.args.d s.args.parents.now s.args.specific.now s.args.contents.now s.args.«open») s.requires.0
+accepted s = going s.args.buffer.now s.args.length (given_of s.args.d s.args.parents.now s.args.specific.now s.args.contents.now s.args.«open») s.requires.open_value
 
 pub head_values-values-requires : goal.head_values-values-requires
 head_values-values-requires c =
@@ -33,10 +33,7 @@ put_parents-behind-requires c =
     let kept = file-kept start.args.buffer.now start.args.length (given_of start.args.d start.args.parents.now start.args.specific.now start.args.contents.now start.args.«open») a _ put.put_lines-dependencies.new.buffer put.put_lines-dependencies.ensures.1 in
     let room = a.room in
     let at = rw head_bytes at put.put_lines-dependencies.ensures.0 in
-    let long = put.put_lines-dependencies.auto.0 in (
-      (omega arith, omega arith),
-      rw kept (located (take start.args.length start.args.buffer.now) start.args.d.serial start.args.parents.now start.args.survey start.requires.1.1 start.args.mark start.requires.1.0 a.taken.parents-few a.taken.parents-below),
-    )
+    let long = put.put_lines-dependencies.auto.0 in record { length_le_at = (omega arith, omega arith); located = rw kept (located (take start.args.length start.args.buffer.now) start.args.d.serial start.args.parents.now start.args.survey start.requires.survey_value start.args.mark start.requires.mark_value a.taken.parents-few a.taken.parents-below) }
 
 pub put_bytes-line-requires : goal.put_bytes-line-requires
 put_bytes-line-requires c =

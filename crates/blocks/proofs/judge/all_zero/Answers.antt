@@ -1,6 +1,6 @@
 -- `blocks::judge::all_zero` meets its contract. The loop's invariant: the bytes before `i` don't decide. The measure is what
 -- is left of the length. Assumes nothing.
-use Rattle.std.proofs.Common.{◌-◌, arith}
+use Rattle.std.proofs.Common.{◌-◌, refl, arith}
 use Rattle.blocks.proofs.Places.{spare-other, spare-next, spare-end}
 use Rattle.blocks.proofs.judge.all_zero.Goals as goal
 
@@ -18,3 +18,15 @@ pub returns : goal.returns
 returns c =
     let l = c in
     spare-end l.args.s.now l.loop-i.i l.loop-i.invariant.1 (omega arith)
+
+pub loop-i-init : goal.loop-i-init
+loop-i-init c = (omega arith, refl)
+
+pub bounds-s-i : goal.bounds-s-i
+bounds-s-i c = omega arith
+
+pub overflow_add-i : goal.overflow_add-i
+overflow_add-i c = omega arith
+
+pub loop-i-smaller : goal.loop-i-smaller
+loop-i-smaller c = omega arith

@@ -5,6 +5,7 @@ use Rattle.metafile.specs.Bytes.{part, all, is_zero}
 use Rattle.blocks.specs.Blocks.{big_value, block_sum, use_of, use_right}
 use Rattle.blocks.proofs.Places.{spare-part}
 use Rattle.blocks.proofs.Faults.{use-most, short-fault, sum-fault, number-fault, use-fault, spare-fault, no-fault}
+use mathlib.Core.Bool.{not}
 use Rattle.blocks.proofs.judge.block_fault.Goals as goal
 use Rattle.blocks.proofs.judge.block_fault.Goals.{After-all_zero, After-big_value-used, Else-b-lt512, Else-big_value-i, Else-block_sum-big_value, Else-not-use_right}
 
@@ -42,7 +43,7 @@ returns-then-not-use_right c =
     let e = v in
     let k = e in
     use-fault _ _ _ (whole (goal.at.returns-then-not-use_right c).Else-b-lt512) (summed (goal.at.returns-then-not-use_right c).Else-block_sum-big_value) (numbered (goal.at.returns-then-not-use_right c).Else-big_value-i)
-    (sym (ap (λ n. use_right k.args.last k.args.i n) (used-is (goal.at.returns-then-not-use_right c).After-big_value-used)) ∙ sym u.use_right.ensures ∙ not-true _ c.if-not-use_right.true)
+    (sym (ap (λ n. use_right k.args.last k.args.i n) (used-is (goal.at.returns-then-not-use_right c).After-big_value-used)) ∙ sym u.use_right.ensures ∙ not-true _ (ap not c.if-not-use_right.true))
 
 used : (c : Else-not-use_right) → use_right c.args.last c.args.i (use_of c.args.b.now) ≡ true
 unfolding use_of
@@ -50,7 +51,7 @@ used c =
     let used-is : c.big_value-used.result ≡ use_of c.args.b.now = c.big_value-used.ensures in
     let u = c in
     let k = c in
-    sym (ap (λ n. use_right k.args.last k.args.i n) used-is) ∙ sym u.use_right.ensures ∙ not-false _ c.if-not-use_right.false
+    sym (ap (λ n. use_right k.args.last k.args.i n) used-is) ∙ sym u.use_right.ensures ∙ not-false _ (ap not c.if-not-use_right.false)
 
 few : (c : Else-not-use_right) → c.big_value-used.result ≤ 504
 unfolding use_of
@@ -68,9 +69,18 @@ spares c =
 pub returns-then-not-all_zero : goal.returns-then-not-all_zero
 returns-then-not-all_zero c =
     let e = c in
-    spare-fault _ _ _ (whole (goal.at.returns-then-not-all_zero c).Else-b-lt512) (summed (goal.at.returns-then-not-all_zero c).Else-block_sum-big_value) (numbered (goal.at.returns-then-not-all_zero c).Else-big_value-i) (used (goal.at.returns-then-not-all_zero c).Else-not-use_right) (sym (spares (goal.at.returns-then-not-all_zero c).After-all_zero) ∙ not-true _ c.if-not-all_zero.true)
+    spare-fault _ _ _ (whole (goal.at.returns-then-not-all_zero c).Else-b-lt512) (summed (goal.at.returns-then-not-all_zero c).Else-block_sum-big_value) (numbered (goal.at.returns-then-not-all_zero c).Else-big_value-i) (used (goal.at.returns-then-not-all_zero c).Else-not-use_right) (sym (spares (goal.at.returns-then-not-all_zero c).After-all_zero) ∙ not-true _ (ap not c.if-not-all_zero.true))
 
 pub returns : goal.returns
 returns c =
     let e = c in
-    no-fault _ _ _ (whole (goal.at.returns c).Else-b-lt512) (summed (goal.at.returns c).Else-block_sum-big_value) (numbered (goal.at.returns c).Else-big_value-i) (used (goal.at.returns c).Else-not-use_right) (sym (spares (goal.at.returns c).After-all_zero) ∙ not-false _ c.if-not-all_zero.false)
+    no-fault _ _ _ (whole (goal.at.returns c).Else-b-lt512) (summed (goal.at.returns c).Else-block_sum-big_value) (numbered (goal.at.returns c).Else-big_value-i) (used (goal.at.returns c).Else-not-use_right) (sym (spares (goal.at.returns c).After-all_zero) ∙ not-false _ (ap not c.if-not-all_zero.false))
+
+pub overflow_add-used : goal.overflow_add-used
+overflow_add-used c = omega (arith, few c)
+
+pub slice_bounds-all_zero-count : goal.slice_bounds-all_zero-count
+slice_bounds-all_zero-count c = omega (arith, few c)
+
+pub slice_bounds-all_zero-start : goal.slice_bounds-all_zero-start
+slice_bounds-all_zero-start c = omega (arith, few c)

@@ -13,13 +13,13 @@ unfolding fault_below
 loop-i-init c = (omega arith, refl)
 
 inside : (c : In-loop-i) → 512 * c.loop-i.i < length c.args.x.now
-inside c = block_inside c.args.x.now c.loop-i.i (omega (arith, c.requires.1, c.loop-i-test.true))
+inside c = block_inside c.args.x.now c.loop-i.i (omega (arith, c.requires.count_value, c.loop-i-test.true))
 
 pub overflow_mul-from : goal.overflow_mul-from
-overflow_mul-from c = omega (arith, inside c, c.requires.0)
+overflow_mul-from c = omega (arith, inside c, c.requires.x_len_bound)
 
 pub overflow_add-from : goal.overflow_add-from
-overflow_add-from c = omega (arith, inside c, c.requires.0)
+overflow_add-from c = omega (arith, inside c, c.requires.x_len_bound)
 
 pub slice_bounds-block_fault-count : goal.slice_bounds-block_fault-count
 slice_bounds-block_fault-count c = omega (arith, inside (goal.at.slice_bounds-block_fault-count c).In-loop-i, c.lesser-end.ensures)
@@ -37,7 +37,7 @@ block_fault-fault-requires c = simp length-take (omega (arith, c.lesser-end.ensu
 turn : (c : After-block_fault-fault) → c.block_fault-fault.result ≡ fault_of c.args.x.now c.loop-i.i
 turn c =
     let e = c in
-    fault-is _ _ _ _ _ e.pre.1 e.lesser-end.ensures c.block_fault-fault.ensures
+    fault-is _ _ _ _ _ e.requires.count_value e.lesser-end.ensures c.block_fault-fault.ensures
 
 pub returns-then-fault-ne0 : goal.returns-then-fault-ne0
 returns-then-fault-ne0 c =
@@ -58,3 +58,6 @@ returns c =
     let l = c in
     let all : l.loop-i.i ≡ l.args.count = omega (arith, l.loop-i.invariant.0, c.loop-i-test.false) in
     rw (← all) (sym l.loop-i.invariant.1)
+
+pub loop-i-smaller : goal.loop-i-smaller
+loop-i-smaller c = omega arith

@@ -9,7 +9,7 @@ returns-then-x-eq0 c = empty-fault _ c.if-x-eq0.true
 
 pub blocks_fault-requires : goal.blocks_fault-requires
 unfolding blocks_of
-blocks_fault-requires c = (c.requires, refl)
+blocks_fault-requires c = record { x_len_bound = c.requires; count_value = refl }
 
 pub returns : goal.returns
 unfolding blocks_of

@@ -20,3 +20,12 @@ returns c =
     let l = c in
     let s = l.args.s.now in
     l.loop-i.invariant.1 ∙ ap block_sum (take_all l.loop-i.i s (omega arith))
+
+pub bounds-s-i : goal.bounds-s-i
+bounds-s-i c = omega arith
+
+pub overflow_add-i : goal.overflow_add-i
+overflow_add-i c = omega arith
+
+pub loop-i-smaller : goal.loop-i-smaller
+loop-i-smaller c = omega arith

@@ -26,3 +26,21 @@ returns c =
       fits = omega arith;
       bytes-are = sym (l.loop-k.invariant.2 ∙ big-none args.at l.loop-k.k l.loop-k.rest l.loop-k.buffer (omega arith));
     }
+
+pub overflow_sub-k : goal.overflow_sub-k
+overflow_sub-k c = omega arith
+
+pub overflow_cast-buffer : goal.overflow_cast-buffer
+overflow_cast-buffer c = omega arith
+
+pub overflow_add-buffer : goal.overflow_add-buffer
+overflow_add-buffer c = omega arith
+
+pub bounds-buffer-at : goal.bounds-buffer-at
+bounds-buffer-at c = omega arith
+
+pub loop-k-smaller : goal.loop-k-smaller
+loop-k-smaller c = omega arith
+
+pub overflow_add-result : goal.overflow_add-result
+overflow_add-result c = omega arith

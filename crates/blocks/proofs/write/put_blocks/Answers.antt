@@ -15,13 +15,13 @@ unfolding join_below
 loop-i-init c = (omega arith, put-none 0 c.args.buffer.now (omega arith))
 
 inside : (c : In-loop-i) → 504 * c.loop-i.i ≤ length c.args.file.now
-inside c = data-inside c.args.file.now c.loop-i.i (omega (arith, c.requires.1.0, c.loop-i-test.true))
+inside c = data-inside c.args.file.now c.loop-i.i (omega (arith, c.requires.count_value, c.loop-i-test.true))
 
 pub overflow_mul-from : goal.overflow_mul-from
-overflow_mul-from c = omega (arith, inside c, c.requires.0)
+overflow_mul-from c = omega (arith, inside c, c.requires.file_len_bound)
 
 pub overflow_add-from : goal.overflow_add-from
-overflow_add-from c = omega (arith, inside c, c.requires.0)
+overflow_add-from c = omega (arith, inside c, c.requires.file_len_bound)
 
 pub slice_bounds-put_block-count : goal.slice_bounds-put_block-count
 slice_bounds-put_block-count c = omega (arith, inside (goal.at.slice_bounds-put_block-count c).In-loop-i, c.lesser-end.ensures)
@@ -37,8 +37,7 @@ put_block-at-requires c =
     let e = c in
     let l = e in
     let k = e in
-    let p = l.loop-i.invariant.1 in
-    (simp length-take (omega (arith, e.lesser-end.ensures)), omega (arith, p.end_is, put-length p, blocks-long k.args.file.now l.loop-i.i, e.loop-i-test.true, k.pre.1.1))
+    let p = l.loop-i.invariant.1 in record { v_len_bound = simp length-take (omega (arith, e.lesser-end.ensures)); at_in_bounds = omega (arith, p.end_is, put-length p, blocks-long k.args.file.now l.loop-i.i, e.loop-i-test.true, k.requires.count_in_bounds) }
 
 pub loop-i-preserved : goal.loop-i-preserved
 loop-i-preserved c =
@@ -56,5 +55,8 @@ unfolding packed
 returns c =
     let l = c in
     let k = l in
-    let all : l.loop-i.i ≡ block_count (length k.args.file.now) = omega (arith, l.loop-i.invariant.0, c.loop-i-test.false, k.requires.1.0) in
+    let all : l.loop-i.i ≡ block_count (length k.args.file.now) = omega (arith, l.loop-i.invariant.0, c.loop-i-test.false, k.requires.count_value) in
     rw (← all) l.loop-i.invariant.1.bytes-are
+
+pub shape_of-buffer : goal.shape_of-buffer
+shape_of-buffer c = put-length c.loop-i.invariant.1

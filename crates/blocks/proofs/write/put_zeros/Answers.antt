@@ -24,3 +24,21 @@ returns c =
     let l = c in
     let all : l.loop-k.k ≡ l.args.n = omega arith in
     rw (← all) l.loop-k.invariant.1
+
+pub overflow_add-buffer : goal.overflow_add-buffer
+overflow_add-buffer c = omega arith
+
+pub bounds-buffer-at : goal.bounds-buffer-at
+bounds-buffer-at c = omega (arith, put-length c.loop-k.invariant.1)
+
+pub overflow_add-k : goal.overflow_add-k
+overflow_add-k c = omega arith
+
+pub loop-k-smaller : goal.loop-k-smaller
+loop-k-smaller c = omega arith
+
+pub overflow_add-result : goal.overflow_add-result
+overflow_add-result c = omega arith
+
+pub shape_of-buffer : goal.shape_of-buffer
+shape_of-buffer c = put-length c.loop-k.invariant.1

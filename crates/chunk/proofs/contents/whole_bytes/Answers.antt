@@ -22,5 +22,5 @@ pub returns : goal.returns
 unfolding content_count
 returns c =
     let k = c in
-    whole_plain k.args.multichunk k.args.llc k.args.mark.now k.args.r.now k.pre _ c.if-multichunk.false
+    whole_plain k.args.multichunk k.args.llc k.args.mark.now k.args.r.now k.requires _ c.if-multichunk.false
     (plain-bytes-is k.args.mark.now k.args.r.now _ _ c.count_at.ensures c.data_bytes.ensures)

@@ -48,16 +48,16 @@ room c =
 bytes-are : (c : Else-broken-ne0) → c.count_at-header.result + 32 ≡ header_bytes c.args.s.now
 unfolding dependency_bytes header_length
 bytes-are c =
-    let lengths_none : lengths_fault c.args.s.now ≡ 0 = sym c.numbers_fault-wrong.ensures ∙ c.if-wrong-ne0.false in
     let numbers : Numbers c.args.s.now c.dependencies-n.result c.count_at-announced.result c.count_at-header.result = record { n-is = c.dependencies-n.ensures; d-is = c.count_at-announced.ensures; h-is = c.count_at-header.ensures } in
+    let lengths_none : lengths_fault c.args.s.now ≡ 0 = sym c.numbers_fault-wrong.ensures ∙ c.if-wrong-ne0.false in
     ap (λ (h : ℕ). h + 32) numbers.h-is ∙ sym (header-bytes-is c.args.s.now lengths_none)
 
 -- so the answer is the last stage's
 last : (c : Else-broken-ne0) (f : ℕ) → f ≡ run (value (free (specific c.args.s.now)) ∷ []) (drop (specific_place c.args.s.now) c.args.s.now) → f ≡ chunk_header_fault c.args.s.now
 unfolding chunk_header_fault
 last c f e =
-    let lengths_none : lengths_fault c.args.s.now ≡ 0 = sym c.numbers_fault-wrong.ensures ∙ c.if-wrong-ne0.false in
     let head-none : run head c.args.s.now ≡ 0 = sym c.head_fault-fault.ensures ∙ c.if-fault-ne0.false in
+    let lengths_none : lengths_fault c.args.s.now ≡ 0 = sym c.numbers_fault-wrong.ensures ∙ c.if-wrong-ne0.false in
     go _ _ _ head-none
     (go _ _ _ lengths_none (go _ _ _ (dependencies-none c) e))
 
@@ -76,7 +76,7 @@ pub count_at-header-requires : goal.count_at-header-requires
 count_at-header-requires c = (omega arith, omega (arith, head-long c.args.s.now (head-none (goal.at.count_at-header-requires c).Else-fault-ne0)))
 
 pub numbers_fault-wrong-requires : goal.numbers_fault-wrong-requires
-numbers_fault-wrong-requires c = (head-none (goal.at.numbers_fault-wrong-requires c).Else-fault-ne0, numbers c)
+numbers_fault-wrong-requires c = record { lines = head-none (goal.at.numbers_fault-wrong-requires c).Else-fault-ne0; numbers = numbers c }
 
 pub returns-then-wrong-ne0 : goal.returns-then-wrong-ne0
 unfolding chunk_header_fault

@@ -26,8 +26,7 @@ slice_bounds-offset_value-end c = omega (arith, head-long c.args.s.now c.require
 pub offset_value-requires : goal.offset_value-requires
 unfolding offset_bytes
 offset_value-requires c =
-    let h = head-long c.args.s.now c.requires in
-    (simp (length-take, length-drop) (omega arith), offset-formed c.args.s.now c.requires)
+    let h = head-long c.args.s.now c.requires in record { s_len = simp (length-take, length-drop) (omega arith); s_value = offset-formed c.args.s.now c.requires }
 
 pub returns : goal.returns
 returns c =

@@ -8,7 +8,7 @@ use Rattle.chunk.proofs.rows.row.Goals.{Start}
 
 -- what the layout says of the chunk's places
 known : (c : Start) → Placed c.args.l c.args.mark.now c.args.s.now
-known c = placed c.args.l c.args.mark.now c.args.s.now c.requires.0
+known c = placed c.args.l c.args.mark.now c.args.s.now c.requires.chunk
 
 pub overflow_add-contents : goal.overflow_add-contents
 overflow_add-contents c = let k = known (goal.at.overflow_add-contents c).Start in omega arith

@@ -8,7 +8,7 @@ pub number_on-requires : goal.number_on-requires
 number_on-requires c =
     let d = c in
     let k = d in
-    read-on _ _ _ k.requires.of (sym d.in-On.is ∙ k.requires.is)
+    let asked = read-on _ _ _ k.requires.of (sym d.in-On.is ∙ k.requires.is) in record { day_value = asked.0; year_bound = asked.1 }
 
 pub returns-in-On : goal.returns-in-On
 unfolding day_value_of

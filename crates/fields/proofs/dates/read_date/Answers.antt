@@ -43,12 +43,17 @@ tested c =
     date-tested c.args.s.now _ _ _ _ _ (digits-is c) (year-is c) (month-is c) (day-is c) c.month_days.ensures
 
 parts : (c : Then-digits-year) → Parts c.args.s.now
+unfolding day_of month_of year_of
 parts c =
+    let year-is : c.number_at-year.result ≡ year_of c.args.s.now = c.number_at-year.ensures in
+    let month-is : c.number_at-month.result ≡ month_of c.args.s.now = c.number_at-month.ensures in
+    let day-is : c.number_at-day.result ≡ day_of c.args.s.now = c.number_at-day.ensures in
+    let digits-is : c.is_digits-digits.result ≡ all is_digit c.args.s.now = c.is_digits-digits.ensures ∙ ap (all is_digit) (take_all 8 c.args.s.now (le_of_eq c.requires)) in
     let tested : (c.is_digits-digits.result
     && leb 1 c.number_at-year.result
     && leb 1 c.number_at-day.result
     && leb c.number_at-day.result c.month_days.result)
-    ≡ is_date c.args.s.now = date-tested c.args.s.now _ _ _ _ _ (digits-is c) (year-is c) (month-is c) (day-is c) c.month_days.ensures in
+    ≡ is_date c.args.s.now = date-tested c.args.s.now _ _ _ _ _ digits-is year-is month-is day-is c.month_days.ensures in
     date-parts _ (sym tested ∙ c.if-digits-year.true)
 
 pub overflow_cast-result : goal.overflow_cast-result

@@ -14,8 +14,8 @@ use Rattle.fields.proofs.offsets.offset_value.Goals.{After-number_at-minutes}
 times : (c : After-number_at-minutes) → (c.number_at-hours.result ≤ 23) × (c.number_at-minutes.result ≤ 59)
 times c =
     let b = c in (
-      rw c.number_at-hours.ensures (hours-le b.args.s.now b.requires.1),
-      rw c.number_at-minutes.ensures (minutes-le b.args.s.now b.requires.1),
+      rw c.number_at-hours.ensures (hours-le b.args.s.now b.requires.s_value),
+      rw c.number_at-minutes.ensures (minutes-le b.args.s.now b.requires.s_value),
     )
 
 pub overflow_mul-units : goal.overflow_mul-units
@@ -32,20 +32,19 @@ overflow_mul-units-3 c = omega (arith, times c)
 
 pub seconds_value-requires : goal.seconds_value-requires
 seconds_value-requires c =
-    let b = c in
-    (simp (length-take, length-drop) (omega arith), seconds-lt b.args.s.now b.requires.1)
+    let b = c in record { s_len = simp (length-take, length-drop) (omega arith); s_bound = seconds-lt b.args.s.now b.requires.s_value }
 
 pub overflow_add-units-2 : goal.overflow_add-units-2
 unfolding second
 overflow_add-units-2 c =
     let b = c in
-    omega (arith, times (goal.at.overflow_add-units-2 c).After-number_at-minutes, c.seconds_value.ensures, seconds-lt b.args.s.now b.requires.1)
+    omega (arith, times (goal.at.overflow_add-units-2 c).After-number_at-minutes, c.seconds_value.ensures, seconds-lt b.args.s.now b.requires.s_value)
 
 pub signed-requires : goal.signed-requires
 unfolding second
 signed-requires c =
     let b = c in
-    omega (arith, times (goal.at.signed-requires c).After-number_at-minutes, c.seconds_value.ensures, seconds-lt b.args.s.now b.requires.1)
+    omega (arith, times (goal.at.signed-requires c).After-number_at-minutes, c.seconds_value.ensures, seconds-lt b.args.s.now b.requires.s_value)
 
 pub returns : goal.returns
 returns c =

@@ -31,31 +31,31 @@ slice_bounds-number-end c = first-length _ _ _ c.leading-before.ensures
 pub number-requires : goal.number-requires
 number-requires c =
     let n = c in
-    omega (arith, ap length (before (goal.at.number-requires c).After-leading-before), before-le n.args.s.now, n.requires.0)
+    omega (arith, ap length (before (goal.at.number-requires c).After-leading-before), before-le n.args.s.now, n.requires.s_len)
 
 pub overflow_mul-result : goal.overflow_mul-result
 unfolding second
 overflow_mul-result c =
     let n = c in
     let b = n in
-    omega (arith, whole_le b.args.s.now b.requires.0 c.number.result (c.number.ensures ∙ ap number (before (goal.at.overflow_mul-result c).After-leading-before)), b.requires.1)
+    omega (arith, whole_le b.args.s.now b.requires.s_len c.number.result (c.number.ensures ∙ ap number (before (goal.at.overflow_mul-result c).After-leading-before)), b.requires.s_bound)
 
 pub number-requires-2 : goal.number-requires-2
 number-requires-2 c =
     let b = c in
-    omega (arith, ap length (behind (goal.at.number-requires-2 c).After-digits-behind), behind-short b.args.s.now, b.requires.0)
+    omega (arith, ap length (behind (goal.at.number-requires-2 c).After-digits-behind), behind-short b.args.s.now, b.requires.s_len)
 
 pub overflow_sub-result : goal.overflow_sub-result
 overflow_sub-result c =
     let b = c in
-    omega (arith, ap length (behind (goal.at.overflow_sub-result c).After-digits-behind), behind-short b.args.s.now, b.requires.0)
+    omega (arith, ap length (behind (goal.at.overflow_sub-result c).After-digits-behind), behind-short b.args.s.now, b.requires.s_len)
 
 pub returns : goal.returns
 returns c =
     let k = c in
     let n = k in
     let b = n in
-    decimal-value b.args.s.now b.requires.0 c.number.result (c.number.ensures ∙ ap number (before (goal.at.returns c).After-leading-before))
+    decimal-value b.args.s.now b.requires.s_len c.number.result (c.number.ensures ∙ ap number (before (goal.at.returns c).After-leading-before))
     c.number-2.result k.digits-behind.result.now (behind (goal.at.returns c).After-digits-behind) c.number-2.ensures
 
 pub overflow_mul-result-2 : goal.overflow_mul-result-2

@@ -16,7 +16,7 @@ tested : (c : After-is_count)
     let t = r in
     let d = t in
     let f = d in
-    (eqb (get_or f.args.t1 0 0) 35
+    (eqb (get_or f.args.serial 0 0) 35
     && eqb f.fault.result 0
     && d.digits_at.result
     && d.digits_at-2.result
@@ -26,15 +26,15 @@ tested : (c : After-is_count)
     && t.digits_at-5.result
     && c.is_count.result
     && eqb r.count_value.result r.byte_sum.result)
-    ≡ is_serial f.args.t1
+    ≡ is_serial f.args.serial
 tested c =
     let r = c in
     let t = r in
     let d = t in
     let f = d in
     let k = f in
-    serial-tested k.args.t1 _ _ _ _ _ _ _ _ _ _ _
-    (sym (first-is k.args.t1 35 (omega (arith, k))))
+    serial-tested k.args.serial _ _ _ _ _ _ _ _ _ _ _
+    (sym (first-is k.args.serial 35 (omega (arith, k))))
     (f.fault.ensures ∙ ap day_fault f.read_date-day.ensures)
     d.digits_at.ensures
     d.digits_at-2.ensures

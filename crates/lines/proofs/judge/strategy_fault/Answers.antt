@@ -21,3 +21,6 @@ unfolding word_no
 returns c =
     let args = c.args in
     strategy-go args.s.now args.at c.word_fault-word.result c.word_fault-word.ensures c.count_fault.result c.if-word-ne0.false c.count_fault.ensures
+
+pub overflow_add-at : goal.overflow_add-at
+overflow_add-at c = omega arith

@@ -29,3 +29,15 @@ pub returns : goal.returns
 returns c =
     let args = c.args in
     lines_end args.s.now _ c.loop-i.p c.loop-i.i (args.first + args.n) c.loop-i.invariant.2 (omega arith)
+
+pub overflow_add-end : goal.overflow_add-end
+overflow_add-end c = omega arith
+
+pub read_line-line-requires : goal.read_line-line-requires
+read_line-line-requires c = omega arith
+
+pub overflow_add-i : goal.overflow_add-i
+overflow_add-i c = omega arith
+
+pub loop-i-smaller : goal.loop-i-smaller
+loop-i-smaller c = omega arith

@@ -1,7 +1,7 @@
 -- `lines::stretches::head_lines_fault` meets its contract. Assumes nothing.
 use native.Mathlib.Omega.{arith}
 use Rattle.laws.proofs.First.{and_both}
-use Rattle.lines.proofs.Standing.{clean_line, clean-none}
+use Rattle.lines.proofs.Standing.{clean_line, clean-none, head-spans}
 use Rattle.lines.proofs.stretches.head_lines_fault.Goals as goal
 
 pub returns-then-a-b : goal.returns-then-a-b
@@ -31,3 +31,24 @@ returns-then-a-b c =
     (clean_line 6 1 _ _ l7.read_line-g.result (omega arith) l7.read_line-g.ensures t7.1
     (clean_line 7 0 _ _ l8.read_line-h.result (omega arith) l8.read_line-h.ensures t8.1
     (clean-none 8 l8.read_line-h.result.at s))))))))
+
+pub read_line-b-requires : goal.read_line-b-requires
+read_line-b-requires c = omega (arith, head-spans)
+
+pub read_line-c-requires : goal.read_line-c-requires
+read_line-c-requires c = omega (arith, head-spans)
+
+pub read_line-d-requires : goal.read_line-d-requires
+read_line-d-requires c = omega (arith, head-spans)
+
+pub read_line-e-requires : goal.read_line-e-requires
+read_line-e-requires c = omega (arith, head-spans)
+
+pub read_line-f-requires : goal.read_line-f-requires
+read_line-f-requires c = omega (arith, head-spans)
+
+pub read_line-g-requires : goal.read_line-g-requires
+read_line-g-requires c = omega (arith, head-spans)
+
+pub read_line-h-requires : goal.read_line-h-requires
+read_line-h-requires c = omega (arith, head-spans)

@@ -2,7 +2,7 @@
 use native.Mathlib.Omega.{arith}
 use Rattle.laws.proofs.First.{and_both}
 use Rattle.laws.proofs.Loops.{part-drop}
-use Rattle.lines.proofs.Standing.{clean_line, clean-none}
+use Rattle.lines.proofs.Standing.{clean_line, clean-none, integrity-spans}
 use Rattle.lines.proofs.stretches.integrity_fault.Goals as goal
 
 pub returns-then-a-b : goal.returns-then-a-b
@@ -27,3 +27,18 @@ returns-then-a-b c =
     (clean_line 20 1 _ _ l5.read_line-e.result (omega arith) l5.read_line-e.ensures t5.1
     (clean_line 21 0 _ _ l6.read_line-f.result (omega arith) l6.read_line-f.ensures t6.1
     (clean-none 22 l6.read_line-f.result.at _)))))))
+
+pub read_line-b-requires : goal.read_line-b-requires
+read_line-b-requires c = omega (arith, integrity-spans)
+
+pub read_line-c-requires : goal.read_line-c-requires
+read_line-c-requires c = omega (arith, integrity-spans)
+
+pub read_line-d-requires : goal.read_line-d-requires
+read_line-d-requires c = omega (arith, integrity-spans)
+
+pub read_line-e-requires : goal.read_line-e-requires
+read_line-e-requires c = omega (arith, integrity-spans)
+
+pub read_line-f-requires : goal.read_line-f-requires
+read_line-f-requires c = omega (arith, integrity-spans)

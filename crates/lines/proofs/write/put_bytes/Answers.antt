@@ -7,4 +7,4 @@ pub returns : goal.returns
 returns c =
     let args = c.args in
     let copy = c.copy in
-    (omega (arith, copy.ensures.0), copied args.at args.s.now args.buffer-1.now copy.new.1.0 copy.ensures.1)
+    (omega (arith, copy.ensures.0), copied args.at args.s.now args.buffer.now copy.new.1.0 copy.ensures.1)

@@ -26,7 +26,7 @@ bounds-buffer-q c =
     let w = c.value_bytes-w in
     let x : List ℕ = take (args.v + w.result - args.v) (drop args.v args.values.now) in
     let long : length x ≡ width (line_no args.i).kind = value-length args.values.now args.v w.result (width (line_no args.i).kind) w.ensures (omega arith) in
-    omega (arith, line-end (line_no args.i) args.buffer-1.now label.new.buffer value.new.buffer x args.at label.result value.result (omega arith) long label.ensures.0 value.ensures.0, label.auto.0, value.auto.0)
+    omega (arith, line-end (line_no args.i) args.buffer.now label.new.buffer value.new.buffer x args.at label.result value.result (omega arith) long label.ensures.0 value.ensures.0, label.auto.0, value.auto.0)
 
 pub overflow_add-result : goal.overflow_add-result
 overflow_add-result c =
@@ -36,7 +36,7 @@ overflow_add-result c =
     let w = c.value_bytes-w in
     let x : List ℕ = take (args.v + w.result - args.v) (drop args.v args.values.now) in
     let long : length x ≡ width (line_no args.i).kind = value-length args.values.now args.v w.result (width (line_no args.i).kind) w.ensures (omega arith) in
-    omega (arith, line-end (line_no args.i) args.buffer-1.now label.new.buffer value.new.buffer x args.at label.result value.result (omega arith) long label.ensures.0 value.ensures.0, label.auto.0, value.auto.0)
+    omega (arith, line-end (line_no args.i) args.buffer.now label.new.buffer value.new.buffer x args.at label.result value.result (omega arith) long label.ensures.0 value.ensures.0, label.auto.0, value.auto.0)
 
 pub shape_of-buffer : goal.shape_of-buffer
 shape_of-buffer c =
@@ -53,4 +53,4 @@ returns c =
     let x : List ℕ = take (args.v + w.result - args.v) (drop args.v args.values.now) in
     let long : length x ≡ width (line_no args.i).kind = value-length args.values.now args.v w.result (width (line_no args.i).kind) w.ensures (omega arith) in
     let taken = value_taken args.values.now args.v w.result (width (line_no args.i).kind) w.ensures in
-    (line-end (line_no args.i) args.buffer-1.now label.new.buffer value.new.buffer x args.at label.result value.result (omega arith) long label.ensures.0 value.ensures.0, line-put (line_no args.i) args.buffer-1.now label.new.buffer value.new.buffer x args.at label.result value.result (omega arith) long label.ensures.0 value.ensures.0 label.ensures.1 value.ensures.1 ∙ rw taken)
+    (line-end (line_no args.i) args.buffer.now label.new.buffer value.new.buffer x args.at label.result value.result (omega arith) long label.ensures.0 value.ensures.0, line-put (line_no args.i) args.buffer.now label.new.buffer value.new.buffer x args.at label.result value.result (omega arith) long label.ensures.0 value.ensures.0 label.ensures.1 value.ensures.1 ∙ rw taken)

@@ -45,3 +45,15 @@ returns c =
     let loop = c.loop-i in
     let end : ℕ = args.first + args.n in
     (omega (arith, size-end loop.i end (omega arith)), sym (loop.invariant.4 ∙ put-end (drop loop.v args.values.now) loop.buffer loop.p loop.i end (omega arith)))
+
+pub overflow_add-end : goal.overflow_add-end
+overflow_add-end c = omega arith
+
+pub value_bytes-v-requires : goal.value_bytes-v-requires
+value_bytes-v-requires c = omega arith
+
+pub overflow_add-i : goal.overflow_add-i
+overflow_add-i c = omega arith
+
+pub loop-i-smaller : goal.loop-i-smaller
+loop-i-smaller c = omega arith

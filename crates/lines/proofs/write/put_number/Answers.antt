@@ -20,3 +20,24 @@ shape_of-buffer c = c.loop-k.invariant.1
 
 pub returns : goal.returns
 returns c = (refl, sym (c.loop-k.invariant.2 ∙ digits-none c.args.at c.loop-k.k c.loop-k.rest c.loop-k.buffer (omega arith)))
+
+pub overflow_sub-k : goal.overflow_sub-k
+overflow_sub-k c = omega arith
+
+pub overflow_cast-buffer : goal.overflow_cast-buffer
+overflow_cast-buffer c = omega arith
+
+pub overflow_add-buffer : goal.overflow_add-buffer
+overflow_add-buffer c = omega arith
+
+pub overflow_add-buffer-in-loop-k : goal.overflow_add-buffer-in-loop-k
+overflow_add-buffer-in-loop-k c = omega arith
+
+pub bounds-buffer-at : goal.bounds-buffer-at
+bounds-buffer-at c = omega arith
+
+pub loop-k-smaller : goal.loop-k-smaller
+loop-k-smaller c = omega arith
+
+pub overflow_add-result : goal.overflow_add-result
+overflow_add-result c = omega arith

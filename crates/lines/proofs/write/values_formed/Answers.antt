@@ -46,3 +46,12 @@ returns c =
     let loop = c.loop-i in
     let end : ℕ = args.first + args.n in
     formed-end (drop loop.v args.values.now) loop.i end (omega arith) ∙ sym loop.invariant.2
+
+pub overflow_add-end : goal.overflow_add-end
+overflow_add-end c = omega arith
+
+pub overflow_add-i : goal.overflow_add-i
+overflow_add-i c = omega arith
+
+pub loop-i-smaller : goal.loop-i-smaller
+loop-i-smaller c = omega arith

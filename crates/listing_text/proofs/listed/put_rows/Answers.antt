@@ -10,11 +10,11 @@ use Rattle.listing_text.proofs.Texts.{rows_none, rows_more}
 use Rattle.listing_text.proofs.listed.put_rows.Goals as goal
 use Rattle.listing_text.proofs.listed.put_rows.Goals.{Start}
 
-rows_long : (s : Start) (i : ℕ) → i < table_rows → i < length s.args.t3
-rows_long s i h = let long : length s.args.t3 ≡ table_rows = search rules in omega arith
+rows_long : (s : Start) (i : ℕ) → i < table_rows → i < length s.args.rows
+rows_long s i h = let long : length s.args.rows ≡ table_rows = search rules in omega arith
 
 pub loop-i-init : goal.loop-i-init
-loop-i-init c = (put_is (sym (rows_none c.args.t3)) (put-none c.args.at c.args.buffer.now (omega arith)), omega arith, omega arith)
+loop-i-init c = (put_is (sym (rows_none c.args.rows)) (put-none c.args.at c.args.buffer.now (omega arith)), omega arith, omega arith)
 
 pub offset_bounds-rows-i : goal.offset_bounds-rows-i
 offset_bounds-rows-i c = omega arith
@@ -35,7 +35,7 @@ loop-i-preserved c =
     let put = c in
     let loop = put in
     let start = loop in (
-      put_is (rows_more start.args.t3 loop.loop-i.i _ (rows_long (goal.at.loop-i-preserved c).Start loop.loop-i.i (omega arith))) (put-behind loop.loop-i.invariant.0 put.put_row-p.ensures.0),
+      put_is (rows_more start.args.rows loop.loop-i.i _ (rows_long (goal.at.loop-i-preserved c).Start loop.loop-i.i (omega arith))) (put-behind loop.loop-i.invariant.0 put.put_row-p.ensures.0),
       omega arith,
       omega (arith, put.put_row-p.ensures.1),
     )

@@ -10,13 +10,13 @@ use Rattle.multi.proofs.gather.is_declared.Goals as goal
 pub type_count-left-requires : goal.type_count-left-requires
 type_count-left-requires c =
     let a = c.args in
-    omega (arith, place-fits a.r.now c.requires.0, place-past a.r.now)
+    omega (arith, place-fits a.r.now c.requires.r_value, place-past a.r.now)
 
 pub loop-left-init : goal.loop-left-init
 loop-left-init c =
     let a = c.args in
     let place = place-begins a.r.now _ c.type_count-left.ensures in (
-      omega (arith, place-fits a.r.now c.requires.0),
+      omega (arith, place-fits a.r.now c.requires.r_value),
       declared-begins a.id.now
           a.r.now _ c.type_count-left.ensures,
     )

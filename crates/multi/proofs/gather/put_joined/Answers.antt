@@ -7,16 +7,16 @@ use Rattle.multi.proofs.MiniWalk.{whole-begins, whole-fits, whole-next, put-begi
 use Rattle.multi.proofs.gather.put_joined.Goals as goal
 
 pub minis_place-at-requires : goal.minis_place-at-requires
-minis_place-at-requires c = c.requires.0
+minis_place-at-requires c = c.requires.r_value
 
 pub loop-buffer-init : goal.loop-buffer-init
 loop-buffer-init c =
     let a = c.args in
     rw c.minis_place-at.ensures (
-      whole-begins a.r.now c.requires.0,
+      whole-begins a.r.now c.requires.r_value,
       put-begins a.id.now a.r.now
-          a.buffer-1.now,
-      c.requires.1,
+          a.buffer.now,
+      c.requires.r_in_bounds,
     )
 
 pub is_mini-requires : goal.is_mini-requires
@@ -25,8 +25,7 @@ is_mini-requires c = c.loop-buffer.invariant.0.inside
 pub put_under-done-requires : goal.put_under-done-requires
 put_under-done-requires c =
     let l = c.loop-buffer in
-    let here = sym c.is_mini.ensures ∙ c.loop-buffer-test.true in
-    (whole-fits l.invariant.0 here, put-room l.invariant.1 l.invariant.0 here l.invariant.2)
+    let here = sym c.is_mini.ensures ∙ c.loop-buffer-test.true in record { r_in_bounds = whole-fits l.invariant.0 here; r_in_bounds_2 = put-room l.invariant.1 l.invariant.0 here l.invariant.2 }
 
 pub mini_bytes-at-requires : goal.mini_bytes-at-requires
 mini_bytes-at-requires c =
@@ -73,8 +72,5 @@ shape_of-buffer c =
 
 pub returns : goal.returns
 returns c =
-    let l = c.loop-buffer in (
-      put-length l.invariant.1 (sym c.is_mini.ensures ∙ c.loop-buffer-test.false),
-      put-done l.invariant.1
-          (sym c.is_mini.ensures ∙ c.loop-buffer-test.false),
-    )
+    let l = c.loop-buffer in record { value = put-length l.invariant.1 (sym c.is_mini.ensures ∙ c.loop-buffer-test.false); buffer_after = put-done l.invariant.1
+          (sym c.is_mini.ensures ∙ c.loop-buffer-test.false) }

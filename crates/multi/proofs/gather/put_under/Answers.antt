@@ -10,11 +10,11 @@ put_part-requires c =
     let a = c.args in
     let long = under-long a.id.now a.at a.r.now c.same_bytes.ensures
     c.if-same_bytes.true c.length_at-n.ensures
-    c.requires.0 in
+    c.requires.r_in_bounds in
     omega (
       arith,
-      c.requires.0,
-      c.requires.1,
+      c.requires.r_in_bounds,
+      c.requires.r_in_bounds_2,
       data_is a.at a.r.now
           c.length_at-n.ensures,
     )
@@ -30,14 +30,10 @@ returns-then-same_bytes c =
     let long = under-long a.id.now a.at a.r.now
     c.same_bytes.ensures
     c.if-same_bytes.true c.length_at-n.ensures
-    c.requires.0 in
-    (omega (arith, put.0), put.1 ∙ ap (λ v. placed a.done v a.buffer-1.now) part)
+    c.requires.r_in_bounds in record { value = omega (arith, put.0); buffer_after = put.1 ∙ ap (λ v. placed a.done v a.buffer.now) part }
 
 pub returns : goal.returns
 returns c =
     let a = c.args in
-    let long = none-long a.id.now a.at a.r.now c.same_bytes.ensures c.if-same_bytes.false in (
-      omega arith,
-      none-put a.id.now a.at a.r.now c.same_bytes.ensures c.if-same_bytes.false
-          a.done a.buffer-1.now,
-    )
+    let long = none-long a.id.now a.at a.r.now c.same_bytes.ensures c.if-same_bytes.false in record { value = omega arith; buffer_after = none-put a.id.now a.at a.r.now c.same_bytes.ensures c.if-same_bytes.false
+          a.done a.buffer.now }

@@ -18,10 +18,7 @@ is_mini-requires c = c.loop-f.invariant.0.inside
 
 pub mini_fault-f-requires : goal.mini_fault-f-requires
 mini_fault-f-requires c =
-    let l = c.loop-f in (
-      (l.invariant.0.inside, l.invariant.1),
-      (sym c.is_mini.ensures ∙ c.loop-f-test.true, c.requires.1),
-    )
+    let l = c.loop-f in record { at_in_bounds = (l.invariant.0.inside, l.invariant.1); r_value = sym c.is_mini.ensures ∙ c.loop-f-test.true; text_ids = c.requires.text_ids }
 
 pub returns-then-f-ne0 : goal.returns-then-f-ne0
 returns-then-f-ne0 c =

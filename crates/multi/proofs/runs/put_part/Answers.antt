@@ -10,5 +10,4 @@ returns c =
     let a = c.args in
     let put = c.put_bytes.ensures in
     let long = slice-length a.from _ a.n a.r.now refl (omega arith) in
-    let part = slice_is a.from _ a.n a.r.now refl in
-    (omega (arith, put.0), put.1 ∙ ap (λ v. placed a.at v a.buffer-1.now) part)
+    let part = slice_is a.from _ a.n a.r.now refl in record { value = omega (arith, put.0); buffer_after = put.1 ∙ ap (λ v. placed a.at v a.buffer.now) part }

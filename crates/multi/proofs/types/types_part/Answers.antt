@@ -15,7 +15,7 @@ length_at-announced-requires c = omega arith
 pub loop-i-init : goal.loop-i-init
 loop-i-init c =
     let a = c.args in
-    (walk_begins a.r.now a.n (multi_length a.r.now) a.ids-1.now (omega arith) (omega arith), refl)
+    (walk_begins a.r.now a.n (multi_length a.r.now) a.ids.now (omega arith) (omega arith), refl)
 
 pub overflow_add-i : goal.overflow_add-i
 overflow_add-i c = omega arith
@@ -29,12 +29,9 @@ shape_of-ids-then-f-ne0 c = omega arith
 pub returns-then-f-ne0 : goal.returns-then-f-ne0
 unfolding multi_length
 returns-then-f-ne0 c =
-    let l = c.loop-i in (
-      part-stopped _ _ _
+    let l = c.loop-i in record { value = part-stopped _ _ _
           (walk-stops l.invariant.0 (omega arith) c.length_at-announced.ensures
-          c.type_fault-f.ensures c.if-f-ne0.true) c.if-f-ne0.true,
-      λ z. absurd (c.if-f-ne0.true z),
-    )
+          c.type_fault-f.ensures c.if-f-ne0.true) c.if-f-ne0.true; ids_after = λ z. absurd (c.if-f-ne0.true z) }
 
 pub overflow_add-at : goal.overflow_add-at
 overflow_add-at c = omega arith
@@ -88,7 +85,7 @@ loop-i-preserved c =
     c.length_at-announced.ensures
     c.type_fault-f.ensures
     c.if-f-ne0.false
-    _ _ c.type_bytes-at.ensures c.put_part-at.ensures.1 in
+    _ _ c.type_bytes-at.ensures c.put_part-at.ensures.buffer_after in
     (w.0, w.1 ∙ l.invariant.1)
 
 pub shape_of-ids : goal.shape_of-ids
@@ -96,8 +93,5 @@ shape_of-ids c = c.loop-i.invariant.1
 
 pub returns : goal.returns
 returns c =
-    let l = c.loop-i in (
-      part-taken _ _ _ (walk-faults l.invariant.0 (omega arith)) (walk_ends l.invariant.0 (omega arith)),
-      λ z.
-          walk-declared l.invariant.0 (omega arith),
-    )
+    let l = c.loop-i in record { value = part-taken _ _ _ (walk-faults l.invariant.0 (omega arith)) (walk_ends l.invariant.0 (omega arith)); ids_after = λ z.
+          walk-declared l.invariant.0 (omega arith) }

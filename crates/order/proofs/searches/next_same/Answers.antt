@@ -12,20 +12,20 @@ there c =
     let at = c in
     let i = c.behind-i in
     next-precedes at.args.file.now at.args.places.now at.args.p i.result
-    at.pre.0 at.pre.1.0 at.pre.1.1 i.ensures (omega (arith, c.if-i-places.false, i.ensures.inside))
+    at.requires.file_len_bound at.requires.p_in_bounds at.requires.places_value i.ensures (omega (arith, c.if-i-places.false, i.ensures.inside))
 
 pub returns-then-i-places : goal.returns-then-i-places
 returns-then-i-places c =
     let at = c in
     let i = c.behind-i in
     next-end at.args.file.now at.args.places.now at.args.p i.result
-    at.pre.0 at.pre.1.0 at.pre.1.1 i.ensures (omega arith)
+    at.requires.file_len_bound at.requires.p_in_bounds at.requires.places_value i.ensures (omega arith)
 
 pub overflow_cast-e : goal.overflow_cast-e
 overflow_cast-e c = omega (arith, c.shared_slice_known-3-1.given c.behind-i.result)
 
 pub compared-requires : goal.compared-requires
-compared-requires c = ((there (goal.at.compared-requires c).Else-i-places).left, (there (goal.at.compared-requires c).Else-i-places).right)
+compared-requires c = record { p_in_bounds = (there (goal.at.compared-requires c).Else-i-places).left; q_in_bounds = (there (goal.at.compared-requires c).Else-i-places).right }
 
 pub returns-then-compared-eq1 : goal.returns-then-compared-eq1
 returns-then-compared-eq1 c =
@@ -33,7 +33,7 @@ returns-then-compared-eq1 c =
     let at = test in
     let i = test.behind-i in
     next-this at.args.file.now at.args.places.now at.args.p i.result
-    at.pre.0 at.pre.1.0 at.pre.1.1 i.ensures (omega (arith, test.if-i-places.false, i.ensures.inside))
+    at.requires.file_len_bound at.requires.p_in_bounds at.requires.places_value i.ensures (omega (arith, test.if-i-places.false, i.ensures.inside))
     c.compared.result c.compared.ensures
     (λ t. (test.shared_slice_known-1.given t).fits) c.if-compared-eq1.true
 
@@ -43,5 +43,5 @@ returns c =
     let at = test in
     let i = test.behind-i in
     next-other at.args.file.now at.args.places.now at.args.p i.result
-    at.pre.0 at.pre.1.0 at.pre.1.1 i.ensures (omega (arith, test.if-i-places.false, i.ensures.inside))
+    at.requires.file_len_bound at.requires.p_in_bounds at.requires.places_value i.ensures (omega (arith, test.if-i-places.false, i.ensures.inside))
     c.compared.result c.compared.ensures c.if-compared-eq1.false

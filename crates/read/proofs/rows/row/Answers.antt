@@ -7,7 +7,7 @@ use Rattle.read.proofs.rows.row.Goals as goal
 use Rattle.read.proofs.rows.row.Goals.{Start}
 
 here : (c : Start) → There c.args.file.now c.args.c
-here c = goes-there _ c.args.c _ c.requires.0 c.requires.1
+here c = goes-there _ c.args.c _ c.requires.c_value c.requires.go_value
 
 pub overflow_add-end : goal.overflow_add-end
 overflow_add-end c = omega (arith, mark-end (here (goal.at.overflow_add-end c).Start))
@@ -23,8 +23,7 @@ slice_bounds-row-end-2 c = omega (arith, mark-end (here (goal.at.slice_bounds-ro
 
 pub row-requires : goal.row-requires
 row-requires c =
-    let w = here (goal.at.row-requires c).Start in
-    (row-whole w, omega (arith, part-long w))
+    let w = here (goal.at.row-requires c).Start in record { chunk = row-whole w; place = omega (arith, part-long w) }
 
 pub returns : goal.returns
 returns c = c.row.ensures ∙ row-at (here (goal.at.returns c).Start)

@@ -10,11 +10,13 @@ use Rattle.relation_line.specs.Form.{Five}
 use Rattle.relation_line.proofs.Forms.{form-five}
 use Rattle.laws.proofs.Below.{any-true, any_none, any_next}
 use Rattle.relation_line.proofs.Parents.{declares-not, declares-is}
+use mathlib.Core.Path.{ap}
+use mathlib.Core.Bool.{not}
 use Rattle.relation_line.proofs.judge.declares.Goals as goal
 use Rattle.relation_line.proofs.judge.declares.Goals.{At-loop-j, Start}
 
 five : (k : Start) → Five k.args.line.now
-five k = form-five k.args.line.now k.requires.1
+five k = form-five k.args.line.now k.requires.line_value
 
 pub slice_bounds-child-end : goal.slice_bounds-child-end
 slice_bounds-child-end c = omega (arith, (five (goal.at.slice_bounds-child-end c).Start).long)
@@ -24,18 +26,18 @@ returns-then-not-same_bytes c =
     let t = c in
     let k = t in
     declares-not k.args.line.now k.args.s.now k.args.n (five (goal.at.returns-then-not-same_bytes c).Start) t.same_bytes.result t.same_bytes.ensures
-    (not-true t.same_bytes.result c.if-not-same_bytes.true)
+    (not-true t.same_bytes.result (ap not c.if-not-same_bytes.true))
 
 -- behind the test of the child: what is left to find
 found : (c : At-loop-j)
     → chunk_declares (split_on 9 c.args.line.now) c.args.s.now c.args.n
     ≡ any_below c.args.n (is_parent_of (split_on 9 c.args.line.now) c.args.s.now)
 found c =
-    let five : Five c.args.line.now = form-five c.args.line.now c.requires.1 in
+    let five : Five c.args.line.now = form-five c.args.line.now c.requires.line_value in
     let t = c in
     let k = c in
     declares-is k.args.line.now k.args.s.now k.args.n five t.same_bytes.result t.same_bytes.ensures
-    (not-false t.same_bytes.result c.if-not-same_bytes.false)
+    (not-false t.same_bytes.result (ap not c.if-not-same_bytes.false))
 
 pub loop-j-init : goal.loop-j-init
 loop-j-init c = (omega arith, any_none _)
@@ -43,7 +45,7 @@ loop-j-init c = (omega arith, any_none _)
 pub is_parent-requires : goal.is_parent-requires
 is_parent-requires c =
     let k = c in
-    (omega (arith, k.pre.0, c.loop-j-test.true), k.pre.1)
+    (omega (arith, k.requires.n_in_bounds, c.loop-j-test.true), k.requires.line_value)
 
 pub returns-then-is_parent : goal.returns-then-is_parent
 returns-then-is_parent c =
@@ -64,3 +66,9 @@ returns c =
     let k = l in
     let all : l.loop-j.j ≡ k.args.n = omega (arith, l.loop-j.invariant.0, c.loop-j-test.false) in
     sym (found (goal.at.returns c).At-loop-j ∙ rw all at l.loop-j.invariant.1)
+
+pub overflow_add-j : goal.overflow_add-j
+overflow_add-j c = omega arith
+
+pub loop-j-smaller : goal.loop-j-smaller
+loop-j-smaller c = omega arith

@@ -13,7 +13,7 @@ returns c =
     let put₁ = put₂ in
     let start = put₁ in
     let args = start.args in
-    let long = line-long args.serial.now args.s.now args.j start.requires.0 start.requires.1.0 in
+    let long = line-long args.serial.now args.s.now args.j start.requires.serial_len start.requires.j_in_bounds in
     let three =
     put-behind (put-behind put₁.put_word-a.ensures.0 put₂.put_word-b.ensures.0) put₃.put_word-c.ensures.0 in
     let all =

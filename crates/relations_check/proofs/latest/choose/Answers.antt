@@ -14,16 +14,15 @@ pub loop-c-init : goal.loop-c-init
 unfolding cursor_none
 loop-c-init c =
     let k = c in
-    (k.requires.0, rw k.requires.1.0 (holding-none k.args.file.now _ (ap (λ (x : Cursor). x.go) c.none-none.ensures) refl))
+    (k.requires.at, rw k.requires.row_value (holding-none k.args.file.now _ (ap (λ (x : Cursor). x.go) c.none-none.ensures) refl))
 
 pub later-best-requires : goal.later-best-requires
 later-best-requires c =
     let l = c in
-    let w = l.loop-c.invariant in
-    (record { is = w.0.is; goes = c.loop-c-test.true; small = l.requires.1.1 }, w.1)
+    let w = l.loop-c.invariant in record { at_row = record { is = w.0.is; goes = c.loop-c-test.true; small = l.requires.file_len_bound }; holding = w.1 }
 
 pub next-c-requires : goal.next-c-requires
-next-c-requires c = let i = c in (i.loop-c.invariant.0, i.loop-c-test.true)
+next-c-requires c = let i = c in record { at = i.loop-c.invariant.0; go_value = i.loop-c-test.true }
 
 pub loop-c-smaller : goal.loop-c-smaller
 loop-c-smaller c =
@@ -39,7 +38,7 @@ loop-c-preserved c =
 pub shape_of-index : goal.shape_of-index
 shape_of-index c =
     let l = c in
-    index-long l.loop-c.invariant.0.indexed ∙ sym (index-long l.requires.0.indexed)
+    index-long l.loop-c.invariant.0.indexed ∙ sym (index-long l.requires.at.indexed)
 
 pub returns : goal.returns
 returns c =

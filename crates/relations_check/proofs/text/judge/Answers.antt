@@ -31,7 +31,7 @@ new l = declared_below l.args.file.now (l.args.w.from + l.args.w.entries)
 pub loop-p-init : goal.loop-p-init
 loop-p-init c =
     let k = c in
-    (omega arith, omega arith, refl, rw (rest-start k.args.text.now) (listing_none _), rw (rest-start k.args.text.now) k.requires.1.is)
+    (omega arith, omega arith, refl, rw (rest-start k.args.text.now) (listing_none _), rw (rest-start k.args.text.now) k.requires.judging.is)
 
 next : (c : After-line_end-end) → rest_of (c.args.text.now) c.loop-p.p ≡ (take (c.line_end-end.result - c.loop-p.p) (drop c.loop-p.p (c.args.text.now))) ∷ (rest_of (c.args.text.now) (c.line_end-end.result + 1))
 next c = rest-step _ _ _ c.loop-p-test.true c.line_end-end.ensures.0
@@ -86,8 +86,7 @@ bounds-verdicts-i c = room (goal.at.bounds-verdicts-i c).Then-is_named
 pub verdict-requires : goal.verdict-requires
 verdict-requires c =
     let t = c in
-    let e = t in
-    (e.pre.0, (named (goal.at.verdict-requires c).Then-is_named, (head e (named (goal.at.verdict-requires c).Then-is_named)).1))
+    let e = t in record { window_of = e.requires.window_of; line_value = named (goal.at.verdict-requires c).Then-is_named; before_value = (head e (named (goal.at.verdict-requires c).Then-is_named)).1 }
 
 pub offset_bounds-verdicts-i-then-is_named : goal.offset_bounds-verdicts-i-then-is_named
 offset_bounds-verdicts-i-then-is_named c = let t = c in omega (arith, small (goal.at.offset_bounds-verdicts-i-then-is_named c).Then-is_named, t.good)
@@ -110,8 +109,9 @@ passed : (c : Joined-is_named)
     × Listing (new c) (split_on 10 (c.args.text.now)) (rest_of (c.args.text.now) (c.line_end-end.result + 1)) c.if-is_named.i c.if-is_named.verdicts
     × (drop c.if-is_named.i c.if-is_named.verdicts ≡ verdicts_by (old c) (rest_of (c.args.text.now) (c.line_end-end.result + 1)) ++ tail (c.args.text.now) c.args.verdicts.now)
 passed c =
-    let behind : drop c.loop-p.i c.loop-p.verdicts ≡ verdicts_by (old c) ((take (c.line_end-end.result - c.loop-p.p) (drop c.loop-p.p (c.args.text.now))) ∷ (rest_of (c.args.text.now) (c.line_end-end.result + 1))) ++ tail (c.args.text.now) c.args.verdicts.now = rw (next c) at c.loop-p.invariant.4 in
-    let listing : Listing (new c) (split_on 10 (c.args.text.now)) ((take (c.line_end-end.result - c.loop-p.p) (drop c.loop-p.p (c.args.text.now))) ∷ (rest_of (c.args.text.now) (c.line_end-end.result + 1))) c.loop-p.i c.loop-p.verdicts = rw (next c) at c.loop-p.invariant.3 in
+    let next : rest_of (c.args.text.now) c.loop-p.p ≡ (take (c.line_end-end.result - c.loop-p.p) (drop c.loop-p.p (c.args.text.now))) ∷ (rest_of (c.args.text.now) (c.line_end-end.result + 1)) = rest-step _ _ _ c.loop-p-test.true c.line_end-end.ensures.0 in
+    let listing : Listing (new c) (split_on 10 (c.args.text.now)) ((take (c.line_end-end.result - c.loop-p.p) (drop c.loop-p.p (c.args.text.now))) ∷ (rest_of (c.args.text.now) (c.line_end-end.result + 1))) c.loop-p.i c.loop-p.verdicts = rw next at c.loop-p.invariant.3 in
+    let behind : drop c.loop-p.i c.loop-p.verdicts ≡ verdicts_by (old c) ((take (c.line_end-end.result - c.loop-p.p) (drop c.loop-p.p (c.args.text.now))) ∷ (rest_of (c.args.text.now) (c.line_end-end.result + 1))) ++ tail (c.args.text.now) c.args.verdicts.now = rw next at c.loop-p.invariant.4 in
     let e = c in
     let l = e in
     let inv = l.loop-p.inv in

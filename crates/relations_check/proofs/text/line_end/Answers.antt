@@ -19,7 +19,7 @@ found c =
 inside : (c : After-find_plain) → c.args.p + c.find_plain.result ≤ length c.args.text.now
 inside c =
     let k = c in
-    omega (arith, k.pre, found c, find-fits (10 ∷ []) (drop k.args.p k.args.text.now), length-drop k.args.p k.args.text.now)
+    omega (arith, k.requires, found c, find-fits (10 ∷ []) (drop k.args.p k.args.text.now), length-drop k.args.p k.args.text.now)
 
 pub overflow_add-result : goal.overflow_add-result
 overflow_add-result c = omega (arith, inside c, c.well-formed)

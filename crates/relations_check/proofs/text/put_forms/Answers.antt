@@ -44,9 +44,10 @@ named c z = form-named (take (c.line_end-end.result - c.loop-p.p) (drop c.loop-p
 
 has_room : (c : After-form-form) → (c.form-form.result ≡ 0 → ⊥) → c.loop-p.i < length c.loop-p.verdicts
 has_room c z =
-    let listing : Listing never (split_on 10 (c.args.text.now)) ((take (c.line_end-end.result - c.loop-p.p) (drop c.loop-p.p (c.args.text.now))) ∷ rest_of (c.args.text.now) (c.line_end-end.result + 1)) c.loop-p.i c.loop-p.verdicts = rw (next c) at c.loop-p.invariant.3 in
+    let next : rest_of (c.args.text.now) c.loop-p.p ≡ (take (c.line_end-end.result - c.loop-p.p) (drop c.loop-p.p (c.args.text.now))) ∷ rest_of (c.args.text.now) (c.line_end-end.result + 1) = rest-step _ _ _ c.loop-p-test.true c.line_end-end.ensures.0 in
+    let listing : Listing never (split_on 10 (c.args.text.now)) ((take (c.line_end-end.result - c.loop-p.p) (drop c.loop-p.p (c.args.text.now))) ∷ rest_of (c.args.text.now) (c.line_end-end.result + 1)) c.loop-p.i c.loop-p.verdicts = rw next at c.loop-p.invariant.3 in
     let l = c in
-    omega (arith, listing-room (named c z) listing, l.loop-p.inv.2, l.pre)
+    omega (arith, listing-room (named c z) listing, l.loop-p.inv.2, l.requires)
 
 pub offset_bounds-verdicts-i : goal.offset_bounds-verdicts-i
 offset_bounds-verdicts-i c = let f = c in let l = f in omega (arith, has_room (goal.at.offset_bounds-verdicts-i c).After-form-form c.if-form-ne0.true, l.loop-p.inv.2, l.good)
@@ -69,11 +70,13 @@ passed : (c : Joined-form-ne0)
     × Listing never (split_on 10 (c.args.text.now)) (rest_of (c.args.text.now) (c.line_end-end.result + 1)) c.if-form-ne0.i c.if-form-ne0.verdicts
     × (drop c.if-form-ne0.i c.if-form-ne0.verdicts ≡ drop c.if-form-ne0.i c.args.verdicts.now)
 passed c =
-    let has_room : (c.form-form.result ≡ 0 → ⊥) → c.loop-p.i < length c.loop-p.verdicts = λ z. let listing : Listing never (split_on 10 (c.args.text.now)) ((take (c.line_end-end.result - c.loop-p.p) (drop c.loop-p.p (c.args.text.now))) ∷ rest_of (c.args.text.now) (c.line_end-end.result + 1)) c.loop-p.i c.loop-p.verdicts = rw (next c) at c.loop-p.invariant.3 in
-    let l = c in
-    omega (arith, listing-room (named c z) listing, l.loop-p.inv.2, l.pre) in
+    let next : rest_of (c.args.text.now) c.loop-p.p ≡ (take (c.line_end-end.result - c.loop-p.p) (drop c.loop-p.p (c.args.text.now))) ∷ rest_of (c.args.text.now) (c.line_end-end.result + 1) = rest-step _ _ _ c.loop-p-test.true c.line_end-end.ensures.0 in
+    let listing : Listing never (split_on 10 (c.args.text.now)) ((take (c.line_end-end.result - c.loop-p.p) (drop c.loop-p.p (c.args.text.now))) ∷ rest_of (c.args.text.now) (c.line_end-end.result + 1)) c.loop-p.i c.loop-p.verdicts = rw next at c.loop-p.invariant.3 in
     let named : (c.form-form.result ≡ 0 → ⊥) → has_name (take (c.line_end-end.result - c.loop-p.p) (drop c.loop-p.p (c.args.text.now))) ≡ true = λ z. form-named (take (c.line_end-end.result - c.loop-p.p) (drop c.loop-p.p (c.args.text.now))) (λ q. z (c.form-form.ensures ∙ q)) in
-    let listing : Listing never (split_on 10 (c.args.text.now)) ((take (c.line_end-end.result - c.loop-p.p) (drop c.loop-p.p (c.args.text.now))) ∷ rest_of (c.args.text.now) (c.line_end-end.result + 1)) c.loop-p.i c.loop-p.verdicts = rw (next c) at c.loop-p.invariant.3 in
+    let has_room : (c.form-form.result ≡ 0 → ⊥) → c.loop-p.i < length c.loop-p.verdicts = λ z. let next : rest_of (c.args.text.now) c.loop-p.p ≡ (take (c.line_end-end.result - c.loop-p.p) (drop c.loop-p.p (c.args.text.now))) ∷ rest_of (c.args.text.now) (c.line_end-end.result + 1) = rest-step _ _ _ c.loop-p-test.true c.line_end-end.ensures.0 in
+    let listing : Listing never (split_on 10 (c.args.text.now)) ((take (c.line_end-end.result - c.loop-p.p) (drop c.loop-p.p (c.args.text.now))) ∷ rest_of (c.args.text.now) (c.line_end-end.result + 1)) c.loop-p.i c.loop-p.verdicts = rw next at c.loop-p.invariant.3 in
+    let l = c in
+    omega (arith, listing-room (named z) listing, l.loop-p.inv.2, l.requires) in
     let f = c in
     let e = f in
     let l = e in

@@ -12,32 +12,31 @@ pub loop-n-init : goal.loop-n-init
 loop-n-init c =
     let k = c in
     let none : k.args.from + 0 ≡ k.args.from = omega arith in
-    let b = k.requires.1.0 in
-    (rw none b, window-none _ _ _ b.few k.requires.1.1.1.1, λ z. k.requires.1.1.1.1)
+    let b = k.requires.behind in
+    (rw none b, window-none _ _ _ b.few k.requires.empty, λ z. k.requires.empty)
 
 pub overflow_sub-rows : goal.overflow_sub-rows
-overflow_sub-rows c = omega (arith, c.requires.1.1.0)
+overflow_sub-rows c = omega (arith, c.requires.from_lt_rows)
 
 in_rows : (c : In-loop-n) → c.args.from + c.loop-n.n < length (rows_of c.args.file.now)
-in_rows c = let k = c in omega (arith, c.loop-n-test.true, k.pre.0, k.pre.1.1.0)
+in_rows c = let k = c in omega (arith, c.loop-n-test.true, k.requires.rows_value, k.requires.from_lt_rows)
 
 pub overflow_add-from : goal.overflow_add-from
-overflow_add-from c = let k = c in omega (arith, c.loop-n-test.true, k.pre.1.1.0, k.fits.rows)
+overflow_add-from c = let k = c in omega (arith, c.loop-n-test.true, k.requires.from_lt_rows, k.fits.rows)
 
 pub row_at-row-requires : goal.row_at-row-requires
-row_at-row-requires c = (c.loop-n.invariant.0, in_rows c)
+row_at-row-requires c = record { behind = c.loop-n.invariant.0; n_in_bounds = in_rows c }
 
 pub add-more-requires : goal.add-more-requires
 add-more-requires c =
     let r = c in
     let l = r in
-    let s = r.row_at-row.ensures in
-    (l.loop-n.inv.1.holds, (s.serial-inside, (omega (arith, s.dependencies-inside, s.end-inside), l.pre.1.1.1.0)))
+    let s = r.row_at-row.ensures in record { directory = l.loop-n.inv.1.holds; key_in_bounds = s.serial-inside; start_in_bounds = omega (arith, s.dependencies-inside, s.end-inside); file_len_bound = l.requires.file_len_bound }
 
 pub shape_of-d-then-more-n : goal.shape_of-d-then-more-n
 shape_of-d-then-more-n c =
     let l = c in
-    c.add-more.ensures.holds.long ∙ sym l.pre.1.1.1.1.long
+    c.add-more.ensures.holds.long ∙ sym l.requires.empty.long
 
 pub returns-then-more-n : goal.returns-then-more-n
 returns-then-more-n c =
@@ -71,14 +70,14 @@ loop-n-preserved c =
     (rw (e, ← next) s.next, rw e w, λ z. absurd (omega (arith, e, z)))
 
 pub shape_of-d : goal.shape_of-d
-shape_of-d c = let l = c in l.loop-n.invariant.1.holds.long ∙ sym l.requires.1.1.1.1.long
+shape_of-d c = let l = c in l.loop-n.invariant.1.holds.long ∙ sym l.requires.empty.long
 
 pub returns : goal.returns
 returns c =
     let l = c in
     record {
       from_is = refl;
-      some = omega (arith, c.loop-n-test.false, l.requires.1.1.0);
+      some = omega (arith, c.loop-n-test.false, l.requires.from_lt_rows);
       window = l.loop-n.invariant.1;
       behind = l.loop-n.invariant.0;
     }

@@ -21,26 +21,25 @@ use Rattle.relations_check.proofs.window.is_declared.Goals as goal
 use Rattle.relations_check.proofs.window.is_declared.Goals.{After-dependencies, After-look_up-e, After-start-at, Else-e-eq0, Start}
 
 five : (k : Start) → Five k.args.line.now
-five k = form-five k.args.line.now k.requires.1
+five k = form-five k.args.line.now k.requires.line_value
 
 pub slice_bounds-child-end : goal.slice_bounds-child-end
 slice_bounds-child-end c = omega (arith, (five (goal.at.slice_bounds-child-end c).Start).long)
 
 pub look_up-e-requires : goal.look_up-e-requires
 look_up-e-requires c =
-    let k = c in
-    (k.requires.0.holds, omega (arith, part-long k.args.line.now 13 38 (omega (arith, (five (goal.at.look_up-e-requires c).Start).long))))
+    let k = c in record { directory = k.requires.window_of.holds; in_bounds = omega (arith, part-long k.args.line.now 13 38 (omega (arith, (five (goal.at.look_up-e-requires c).Start).long))) }
 
 sought : (c : After-look_up-e) → Sought c.args.file.now c.args.d.now c.args.w.entries (field_no (split_on 9 c.args.line.now) 1) c.look_up-e.result
 sought c =
-    let five : Five c.args.line.now = form-five c.args.line.now c.requires.1 in
+    let five : Five c.args.line.now = form-five c.args.line.now c.requires.line_value in
     rw five.child_serial c.look_up-e.ensures
 
 pub returns-then-e-eq0 : goal.returns-then-e-eq0
 returns-then-e-eq0 c =
     let l = c in
     let k = l in
-    none-declares _ _ _ _ k.pre.0 (split_on 9 k.args.line.now) l.look_up-e.result (sought (goal.at.returns-then-e-eq0 c).After-look_up-e) c.if-e-eq0.true
+    none-declares _ _ _ _ k.requires.window_of (split_on 9 k.args.line.now) l.look_up-e.result (sought (goal.at.returns-then-e-eq0 c).After-look_up-e) c.if-e-eq0.true
 
 -- the row that was found
 some : (c : Else-e-eq0) → 0 < c.look_up-e.result
@@ -48,12 +47,12 @@ some c = omega (arith, c.if-e-eq0.false)
 
 below : (c : Else-e-eq0) → c.look_up-e.result - 1 < c.args.w.entries
 below c =
-    let sought : Sought c.args.file.now c.args.d.now c.args.w.entries (field_no (split_on 9 c.args.line.now) 1) c.look_up-e.result = let five : Five c.args.line.now = form-five c.args.line.now c.requires.1 in
+    let sought : Sought c.args.file.now c.args.d.now c.args.w.entries (field_no (split_on 9 c.args.line.now) 1) c.look_up-e.result = let five : Five c.args.line.now = form-five c.args.line.now c.requires.line_value in
     rw five.child_serial c.look_up-e.ensures in
     omega (arith, sought.few, some c)
 
 in_rows : (c : Else-e-eq0) → (c.args.w.from + (c.look_up-e.result - 1)) < length (rows_of c.args.file.now)
-in_rows c = omega (arith, below c, c.requires.0.rows)
+in_rows c = omega (arith, below c, c.requires.window_of.rows)
 
 lies : (c : Else-e-eq0) → RowInside c.args.file.now (row_no (rows_of c.args.file.now) (c.args.w.from + (c.look_up-e.result - 1)))
 lies c = row_inside _ _ (in_rows c)
@@ -62,18 +61,24 @@ pub overflow_sub-e : goal.overflow_sub-e
 overflow_sub-e c = some c
 
 pub start-at-requires : goal.start-at-requires
-start-at-requires c = let w = c.requires.0 in (w.holds.long, omega (arith, below c, w.holds.few))
+start-at-requires c = let w = c.requires.window_of in record { d_len = w.holds.long; j_bound = omega (arith, below c, w.holds.few) }
 
 place : (c : After-start-at) → c.start-at.result ≡ (row_no (rows_of c.args.file.now) (c.args.w.from + (c.look_up-e.result - 1))).place
 place c =
-    let below : c.look_up-e.result - 1 < c.args.w.entries = let sought : Sought c.args.file.now c.args.d.now c.args.w.entries (field_no (split_on 9 c.args.line.now) 1) c.look_up-e.result = let five : Five c.args.line.now = form-five c.args.line.now c.requires.1 in
+    let some : 0 < c.look_up-e.result = omega (arith, c.if-e-eq0.false) in
+    let below : c.look_up-e.result - 1 < c.args.w.entries = let sought : Sought c.args.file.now c.args.d.now c.args.w.entries (field_no (split_on 9 c.args.line.now) 1) c.look_up-e.result = let five : Five c.args.line.now = form-five c.args.line.now c.requires.line_value in
     rw five.child_serial c.look_up-e.ensures in
-    omega (arith, sought.few, some c) in
-    let e = c in c.start-at.ensures ∙ e.requires.0.starts (e.look_up-e.result - 1) below
+    omega (arith, sought.few, some) in
+    let e = c in c.start-at.ensures ∙ e.requires.window_of.starts (e.look_up-e.result - 1) below
 
 inside : (c : After-start-at) → c.start-at.result + (568 + 344 * (row_no (rows_of c.args.file.now) (c.args.w.from + (c.look_up-e.result - 1))).dependencies) ≤ length c.args.file.now
 inside c =
-    let lies : RowInside c.args.file.now (row_no (rows_of c.args.file.now) (c.args.w.from + (c.look_up-e.result - 1))) = row_inside _ _ (in_rows c) in
+    let some : 0 < c.look_up-e.result = omega (arith, c.if-e-eq0.false) in
+    let below : c.look_up-e.result - 1 < c.args.w.entries = let sought : Sought c.args.file.now c.args.d.now c.args.w.entries (field_no (split_on 9 c.args.line.now) 1) c.look_up-e.result = let five : Five c.args.line.now = form-five c.args.line.now c.requires.line_value in
+    rw five.child_serial c.look_up-e.ensures in
+    omega (arith, sought.few, some) in
+    let in_rows : (c.args.w.from + (c.look_up-e.result - 1)) < length (rows_of c.args.file.now) = omega (arith, below, c.requires.window_of.rows) in
+    let lies : RowInside c.args.file.now (row_no (rows_of c.args.file.now) (c.args.w.from + (c.look_up-e.result - 1))) = row_inside _ _ in_rows in
     omega (arith, place c, lies.dependencies-inside)
 
 pub slice_bounds-s-count : goal.slice_bounds-s-count
@@ -95,15 +100,23 @@ dependencies-requires c = omega (arith, long (goal.at.dependencies-requires c).A
 count : (c : After-dependencies) → c.dependencies.result ≡ (row_no (rows_of (c.args.file.now)) (c.args.w.from + (c.look_up-e.result - 1))).dependencies
 unfolding chunk_of
 count c =
-    let given : take (length (c.args.file.now) - c.start-at.result) (drop c.start-at.result (c.args.file.now)) ≡ chunk_of (c.args.file.now) (c.args.w.from + (c.look_up-e.result - 1)) = part-drop (c.args.file.now) c.start-at.result ∙ ap (λ (p : ℕ). drop p (c.args.file.now)) (place c) in
-    let in_rows : (c.args.w.from + (c.look_up-e.result - 1)) < length (rows_of c.args.file.now) = omega (arith, below c, c.requires.0.rows) in
+    let some : 0 < c.look_up-e.result = omega (arith, c.if-e-eq0.false) in
+    let below : c.look_up-e.result - 1 < c.args.w.entries = let sought : Sought c.args.file.now c.args.d.now c.args.w.entries (field_no (split_on 9 c.args.line.now) 1) c.look_up-e.result = let five : Five c.args.line.now = form-five c.args.line.now c.requires.line_value in
+    rw five.child_serial c.look_up-e.ensures in
+    omega (arith, sought.few, some) in
+    let in_rows : (c.args.w.from + (c.look_up-e.result - 1)) < length (rows_of c.args.file.now) = omega (arith, below, c.requires.window_of.rows) in
+    let place : c.start-at.result ≡ (row_no (rows_of c.args.file.now) (c.args.w.from + (c.look_up-e.result - 1))).place = let some : 0 < c.look_up-e.result = omega (arith, c.if-e-eq0.false) in
+    let below : c.look_up-e.result - 1 < c.args.w.entries = let sought : Sought c.args.file.now c.args.d.now c.args.w.entries (field_no (split_on 9 c.args.line.now) 1) c.look_up-e.result = let five : Five c.args.line.now = form-five c.args.line.now c.requires.line_value in
+    rw five.child_serial c.look_up-e.ensures in
+    omega (arith, sought.few, some) in
+    let e = c in c.start-at.ensures ∙ e.requires.window_of.starts (e.look_up-e.result - 1) below in
+    let given : take (length (c.args.file.now) - c.start-at.result) (drop c.start-at.result (c.args.file.now)) ≡ chunk_of (c.args.file.now) (c.args.w.from + (c.look_up-e.result - 1)) = part-drop (c.args.file.now) c.start-at.result ∙ ap (λ (p : ℕ). drop p (c.args.file.now)) place in
     let t = c in
     c.dependencies.ensures ∙ ap dependencies given ∙ sym (dependencies-are _ _ in_rows)
 
 pub declares-requires : goal.declares-requires
 declares-requires c =
-    let t = c in
-    (omega (arith, long (goal.at.declares-requires c).After-start-at, count c), t.requires.1)
+    let t = c in record { n_in_bounds = omega (arith, long (goal.at.declares-requires c).After-start-at, count c); line_value = t.requires.line_value }
 
 pub returns : goal.returns
 returns c =
@@ -112,5 +125,5 @@ returns c =
     let e = t in
     let k = e in
     let fs = split_on 9 k.args.line.now in
-    row-declares _ _ _ _ k.pre.0 fs e.look_up-e.result (sought (goal.at.returns c).After-look_up-e) (some (goal.at.returns c).Else-e-eq0) c.declares.result
+    row-declares _ _ _ _ k.requires.window_of fs e.look_up-e.result (sought (goal.at.returns c).After-look_up-e) (some (goal.at.returns c).Else-e-eq0) c.declares.result
     (c.declares.ensures ∙ ap (λ (s : List ℕ). chunk_declares fs s n.dependencies.result) (given (goal.at.returns c).After-start-at) ∙ ap (chunk_declares fs (chunk_of (t.args.file.now) (e.args.w.from + (e.look_up-e.result - 1)))) (count (goal.at.returns c).After-dependencies))

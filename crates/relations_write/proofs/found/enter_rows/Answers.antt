@@ -14,11 +14,10 @@ use Rattle.relations_write.proofs.found.enter_rows.Goals.{After-is_relations}
 pub loop-k-init : goal.loop-k-init
 loop-k-init c =
     let k = c in
-    (k.requires.1.0, omega arith, held_none k.args.file.now k.args.d.now k.requires.1.1.1)
+    (k.requires.behind, omega arith, held_none k.args.file.now k.args.d.now k.requires.empty)
 
 pub row_at-row-requires : goal.row_at-row-requires
-row_at-row-requires c =
-    (c.loop-k.invariant.0 (omega (arith, c.loop-k-test.true)), omega (arith, c.loop-k-test.true, c.requires.0))
+row_at-row-requires c = record { behind = c.loop-k.invariant.0 (omega (arith, c.loop-k-test.true)); n_in_bounds = omega (arith, c.loop-k-test.true, c.requires.rows_value) }
 
 pub is_relations-requires : goal.is_relations-requires
 is_relations-requires c =
@@ -36,14 +35,13 @@ add-more-requires c =
     let r = c in
     let w = r.row_at-row.ensures in
     let inside : r.loop-k.at ≤ length r.args.file.now =
-    omega (arith, w.dependencies-inside, w.end-inside) in
-    (r.loop-k.invariant.2.holds, (w.serial-inside, (inside, r.pre.1.1.0)))
+    omega (arith, w.dependencies-inside, w.end-inside) in record { directory = r.loop-k.invariant.2.holds; key_in_bounds = w.serial-inside; start_in_bounds = inside; file_len_bound = r.requires.file_len_bound }
 
 pub shape_of-d-then-more-n : goal.shape_of-d-then-more-n
 shape_of-d-then-more-n c =
     let a = c in
     let k = a in
-    a.add-more.ensures.holds.long ∙ sym k.pre.1.1.1.long
+    a.add-more.ensures.holds.long ∙ sym k.requires.empty.long
 
 pub returns-then-more-n : goal.returns-then-more-n
 returns-then-more-n c =
@@ -52,12 +50,12 @@ returns-then-more-n c =
     let k = l in
     let inv = l.loop-k.invariant in
     record {
-      rows_are = k.pre.0;
-      begun = k.pre.1.0;
+      rows_are = k.requires.rows_value;
+      begun = k.requires.behind;
       behind = inv.0;
       few = inv.1;
       held = held_kept _ _ _ _ inv.2 _ _ _ _ a.add-more.ensures c.if-more-n.true;
-      small = k.pre.1.1.0;
+      small = k.requires.file_len_bound;
     }
 
 pub loop-k-preserved : goal.loop-k-preserved
@@ -79,17 +77,23 @@ loop-k-preserved c =
 pub shape_of-d : goal.shape_of-d
 shape_of-d c =
     let k = c in
-    c.loop-k.invariant.2.holds.long ∙ sym k.requires.1.1.1.long
+    c.loop-k.invariant.2.holds.long ∙ sym k.requires.empty.long
 
 pub returns : goal.returns
 returns c =
     let k = c in
     let inv = c.loop-k.invariant in
     record {
-      rows_are = k.requires.0;
-      begun = k.requires.1.0;
+      rows_are = k.requires.rows_value;
+      begun = k.requires.behind;
       behind = inv.0;
       few = inv.1;
       held = inv.2;
-      small = k.requires.1.1.0;
+      small = k.requires.file_len_bound;
     }
+
+pub overflow_add-k : goal.overflow_add-k
+overflow_add-k c = omega (arith, c.loop-k-test.true)
+
+pub loop-k-smaller : goal.loop-k-smaller
+loop-k-smaller c = omega (arith, c.loop-k-test.true)

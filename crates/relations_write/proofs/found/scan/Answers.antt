@@ -9,13 +9,13 @@ use Rattle.relations_write.proofs.found.scan.Goals as goal
 use Rattle.relations_write.proofs.found.scan.Goals.{In-loop-k}
 
 in_rows : (c : In-loop-k) → c.loop-k.k < length (rows_of c.args.file.now)
-in_rows c = omega (arith, c.loop-k-test.true, c.requires.0)
+in_rows c = omega (arith, c.loop-k-test.true, c.requires.rows_value)
 
 pub loop-k-init : goal.loop-k-init
-loop-k-init c = (c.requires.1.0, λ l. l)
+loop-k-init c = (c.requires.behind, λ l. l)
 
 pub row_at-row-requires : goal.row_at-row-requires
-row_at-row-requires c = (c.loop-k.invariant.0, in_rows c)
+row_at-row-requires c = record { behind = c.loop-k.invariant.0; n_in_bounds = in_rows c }
 
 pub is_relations-requires : goal.is_relations-requires
 is_relations-requires c =
@@ -40,4 +40,22 @@ loop-k-preserved c =
 pub returns : goal.returns
 returns c =
     let k = c in
-    rows-scanned _ _ _ _ (omega (arith, c.loop-k-test.false, k.requires.0)) c.loop-k.invariant.1
+    rows-scanned _ _ _ _ (omega (arith, c.loop-k-test.false, k.requires.rows_value)) c.loop-k.invariant.1
+
+pub overflow_add-own : goal.overflow_add-own
+overflow_add-own c = omega (arith, c.row_at-row.ensures.serial-inside)
+
+pub slice_bounds-same_bytes-count : goal.slice_bounds-same_bytes-count
+slice_bounds-same_bytes-count c = omega (arith, c.row_at-row.ensures.serial-inside)
+
+pub slice_bounds-same_bytes-start : goal.slice_bounds-same_bytes-start
+slice_bounds-same_bytes-start c = omega (arith, c.row_at-row.ensures.serial-inside)
+
+pub slice_bounds-same_bytes-end : goal.slice_bounds-same_bytes-end
+slice_bounds-same_bytes-end c = omega (arith, c.row_at-row.ensures.serial-inside)
+
+pub overflow_add-k : goal.overflow_add-k
+overflow_add-k c = omega arith
+
+pub loop-k-smaller : goal.loop-k-smaller
+loop-k-smaller c = omega arith

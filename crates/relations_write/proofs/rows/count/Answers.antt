@@ -16,13 +16,11 @@ loop-k-init c = (c.requires.begun, omega arith, refl, omega arith, omega arith)
 
 pub row_at-row-requires : goal.row_at-row-requires
 row_at-row-requires c =
-    let s = c in
-    (s.loop-k.invariant.0 (omega (arith, c.loop-k-test.true)), omega (arith, c.loop-k-test.true, s.requires.rows_are))
+    let s = c in record { behind = s.loop-k.invariant.0 (omega (arith, c.loop-k-test.true)); n_in_bounds = omega (arith, c.loop-k-test.true, s.requires.rows_are) }
 
 pub row_count-lines-requires : goal.row_count-lines-requires
 row_count-lines-requires c =
-    let w = c.row_at-row.ensures in
-    (c.pre, omega (arith, w.dependencies-inside, w.end-inside))
+    let w = c.row_at-row.ensures in record { found_in = c.requires; n_in_bounds = omega (arith, w.dependencies-inside, w.end-inside) }
 
 -- the lines of one row more
 fits : (c : After-row_count-lines)
@@ -41,7 +39,7 @@ fits c =
 pub overflow_add-lines : goal.overflow_add-lines
 overflow_add-lines c =
     let r = c in
-    omega (arith, fits c, r.row_at-row.ensures.end-inside, r.pre.small)
+    omega (arith, fits c, r.row_at-row.ensures.end-inside, r.requires.small)
 
 pub loop-k-preserved : goal.loop-k-preserved
 loop-k-preserved c =
@@ -61,5 +59,11 @@ returns c =
     let k = s in
     let inv = s.loop-k.invariant in
     let all : s.loop-k.k ≡ length (rows_of k.args.file.now) =
-    omega (arith, inv.1, c.loop-k-test.false, k.pre.rows_are) in
+    omega (arith, inv.1, c.loop-k-test.false, k.requires.rows_are) in
     (inv.2 ∙ ap length (rows_all k.args.file.now _ all), inv.4)
+
+pub overflow_add-k : goal.overflow_add-k
+overflow_add-k c = omega (arith, c.loop-k-test.true)
+
+pub loop-k-smaller : goal.loop-k-smaller
+loop-k-smaller c = omega (arith, c.loop-k-test.true)

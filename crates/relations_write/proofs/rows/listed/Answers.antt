@@ -21,7 +21,7 @@ unfolding count_below
 loop-j-init c = (omega arith, refl)
 
 pub is_listed-requires : goal.is_listed-requires
-is_listed-requires c = (c.requires.0, omega (arith, c.loop-j-test.true, c.requires.1))
+is_listed-requires c = record { found_in = c.requires.found_in; j_in_bounds = omega (arith, c.loop-j-test.true, c.requires.n_in_bounds) }
 
 pub overflow_add-count : goal.overflow_add-count
 overflow_add-count c =
@@ -47,3 +47,9 @@ returns c =
     let inv = c.loop-j.invariant in
     let all : c.loop-j.j ≡ k.args.n = omega (arith, inv.0, c.loop-j-test.false) in
     rw all at inv.1
+
+pub overflow_add-j : goal.overflow_add-j
+overflow_add-j c = omega (arith, c.loop-j-test.true)
+
+pub loop-j-smaller : goal.loop-j-smaller
+loop-j-smaller c = omega (arith, c.loop-j-test.true)

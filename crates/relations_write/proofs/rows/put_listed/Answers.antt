@@ -19,15 +19,15 @@ tested k = listed_in k.args.file.now (drop k.args.at k.args.file.now)
 pub loop-j-init : goal.loop-j-init
 loop-j-init c =
     let a = c.args in
-    (omega arith, chunk-none a.file.now _ _ a.p a.buffer-1.now)
+    (omega arith, chunk-none a.file.now _ _ a.p a.buffer.now)
 
 pub is_listed-requires : goal.is_listed-requires
-is_listed-requires c = (c.requires.0, omega (arith, c.loop-j-test.true, c.requires.1.0))
+is_listed-requires c = record { found_in = c.requires.found_in; j_in_bounds = omega (arith, c.loop-j-test.true, c.requires.n_in_bounds) }
 
 -- room for the lines of the dependencies before dependency j
 room : (k : Start) (j : ℕ) → j ≤ k.args.n
     → k.args.p + 605 * count_below j (tested k) ≤ length k.args.buffer.now
-room k j h = omega (arith, k.requires.1.1.1, count-le (tested k) j k.args.n h)
+room k j h = omega (arith, k.requires.file_in_bounds, count-le (tested k) j k.args.n h)
 
 pub put_line-q-requires : goal.put_line-q-requires
 put_line-q-requires c =
@@ -36,19 +36,13 @@ put_line-q-requires c =
     let k = l in
     let j = l.loop-j.j in
     let inv = l.loop-j.invariant in
-    let next = count_next (tested k) j true (sym i.is_listed.ensures ∙ c.if-is_listed.true) in (
-      simp (length-take, length-drop) (omega (arith, k.pre.1.1.0)),
-      (
-        simp (length-take, length-drop) (omega (arith, l.loop-j-test.true, k.pre.1.0)),
-        omega (
+    let next = count_next (tested k) j true (sym i.is_listed.ensures ∙ c.if-is_listed.true) in record { serial_len = simp (length-take, length-drop) (omega (arith, k.requires.serial_in_bounds)); j_in_bounds = simp (length-take, length-drop) (omega (arith, l.loop-j-test.true, k.requires.n_in_bounds)); at_in_bounds = omega (
           arith,
           next,
           inv.1.ends,
           room (goal.at.put_line-q-requires c).Start (j + 1) (omega (arith, l.loop-j-test.true)),
           put-room inv.1 (room (goal.at.put_line-q-requires c).Start j inv.0),
-        ),
-      ),
-    )
+        ) }
 
 pub loop-j-preserved : goal.loop-j-preserved
 loop-j-preserved c =
@@ -59,12 +53,12 @@ loop-j-preserved c =
     let inv = l.loop-j.invariant in
     let is = sym c.is_listed.ensures in
     let more : j + 1 ≤ k.args.n = omega (arith, l.loop-j-test.true) in
-    let inside : k.args.at + (568 + 344 * j + 344) ≤ length file = omega (arith, k.pre.1.0) in (
+    let inside : k.args.at + (568 + 344 * j + 344) ≤ length file = omega (arith, k.requires.n_in_bounds) in (
       more,
       ⊎_elim
           (λ t. rw (t.7, t.8)
           (listed-put file _ _ j inv.1 (is ∙ t.0.taken) (room (goal.at.loop-j-preserved c).Start (j + 1) more)
-          (line-put file _ _ j k.pre.1.1.0 inside _ _ t.4.ensures.0 _ _ t.4.ensures.1)))
+          (line-put file _ _ j k.requires.serial_in_bounds inside _ _ t.4.ensures.0 _ _ t.4.ensures.1)))
           (λ t. rw (t.1, t.2) (unlisted-put file _ _ j inv.1 (is ∙ t.0.left)))
           c.if-is_listed.branch,
     )
@@ -80,3 +74,30 @@ returns c =
     let inv = c.loop-j.invariant in
     let all : c.loop-j.j ≡ k.args.n = omega (arith, inv.0, c.loop-j-test.false) in
     rw all at inv.1
+
+pub overflow_add-end : goal.overflow_add-end
+overflow_add-end c = omega (arith, c.requires.serial_in_bounds)
+
+pub slice_bounds-put_line-count : goal.slice_bounds-put_line-count
+slice_bounds-put_line-count c = omega arith
+
+pub slice_bounds-put_line-start : goal.slice_bounds-put_line-start
+slice_bounds-put_line-start c = omega arith
+
+pub slice_bounds-put_line-end : goal.slice_bounds-put_line-end
+slice_bounds-put_line-end c = omega (arith, c.requires.serial_in_bounds)
+
+pub slice_bounds-put_line-count-then-is_listed : goal.slice_bounds-put_line-count-then-is_listed
+slice_bounds-put_line-count-then-is_listed c = omega (arith, c.requires.n_in_bounds)
+
+pub slice_bounds-put_line-start-then-is_listed : goal.slice_bounds-put_line-start-then-is_listed
+slice_bounds-put_line-start-then-is_listed c = omega (arith, c.requires.n_in_bounds)
+
+pub slice_bounds-put_line-end-then-is_listed : goal.slice_bounds-put_line-end-then-is_listed
+slice_bounds-put_line-end-then-is_listed c = omega arith
+
+pub overflow_add-j : goal.overflow_add-j
+overflow_add-j c = omega (arith, c.loop-j-test.true)
+
+pub loop-j-smaller : goal.loop-j-smaller
+loop-j-smaller c = omega (arith, c.loop-j-test.true)

@@ -11,7 +11,7 @@ pub returns-then-is_relations : goal.returns-then-is_relations
 returns-then-is_relations c =
     let i = c in
     let a = i.args in
-    relations-put a.file.now _ _ a.n (sym i.is_relations.ensures ∙ c.if-is_relations.true) a.p a.buffer-1.now
+    relations-put a.file.now _ _ a.n (sym i.is_relations.ensures ∙ c.if-is_relations.true) a.p a.buffer.now
 
 -- the row is no relations row
 other : (c : Else-is_relations) → is_relations (drop c.args.at c.args.file.now) ≡ false
@@ -20,8 +20,7 @@ other c = sym c.is_relations.ensures ∙ c.if-is_relations.false
 pub put_listed-requires : goal.put_listed-requires
 put_listed-requires c =
     let e = c in
-    let k = e in
-    (k.pre.0, (k.pre.1.0, (k.pre.1.1.0, rw (count-listed _ _ k.args.n (other (goal.at.put_listed-requires c).Else-is_relations)) at k.pre.1.1.1)))
+    let k = e in record { found_in = k.requires.found_in; n_in_bounds = k.requires.n_in_bounds; serial_in_bounds = k.requires.serial_in_bounds; file_in_bounds = rw (count-listed _ _ k.args.n (other (goal.at.put_listed-requires c).Else-is_relations)) at k.requires.n_in_bounds_2 }
 
 pub returns : goal.returns
 returns c =

@@ -13,40 +13,30 @@ use Rattle.relations_write.proofs.rows.put_rows.Goals.{Start}
 room : (s : Start) (k : ℕ) → k ≤ s.args.t.rows
     → s.args.from + 605 * lines_to s.args.file.now k ≤ length s.args.buffer.now
 room s k h =
-    let few : k ≤ length (rows_of s.args.file.now) = omega (arith, s.requires.0.rows_are) in
-    omega (arith, s.requires.1, rows_few s.args.file.now k few)
+    let few : k ≤ length (rows_of s.args.file.now) = omega (arith, s.requires.found_in.rows_are) in
+    omega (arith, s.requires.file_in_bounds, rows_few s.args.file.now k few)
 
 pub loop-k-init : goal.loop-k-init
 loop-k-init c =
     let s = c in
-    (s.requires.0.begun, omega arith, rows_none s.args.file.now s.args.from s.args.buffer.now)
+    (s.requires.found_in.begun, omega arith, rows_none s.args.file.now s.args.from s.args.buffer.now)
 
 pub row_at-row-requires : goal.row_at-row-requires
 row_at-row-requires c =
-    let s = c in
-    (s.loop-k.invariant.0 (omega (arith, c.loop-k-test.true)), omega (arith, c.loop-k-test.true, s.requires.0.rows_are))
+    let s = c in record { behind = s.loop-k.invariant.0 (omega (arith, c.loop-k-test.true)); n_in_bounds = omega (arith, c.loop-k-test.true, s.requires.found_in.rows_are) }
 
 pub put_row-p-requires : goal.put_row-p-requires
 put_row-p-requires c =
     let r = c in
     let s = r in
     let l = r.loop-k in
-    let w = r.row_at-row.ensures in (
-      s.pre.0,
-      (
-        omega (arith, w.dependencies-inside, w.end-inside),
-        (
-          w.serial-inside,
-          omega (
+    let w = r.row_at-row.ensures in record { found_in = s.requires.found_in; n_in_bounds = omega (arith, w.dependencies-inside, w.end-inside); serial_in_bounds = w.serial-inside; n_in_bounds_2 = omega (
             arith,
             l.invariant.2.ends,
             row-counted _ _ _ _ _ w,
             room (goal.at.put_row-p-requires c).Start (l.k + 1) (omega (arith, r.loop-k-test.true)),
             put-room l.invariant.2 (room (goal.at.put_row-p-requires c).Start l.k l.invariant.1),
-          ),
-        ),
-      ),
-    )
+          ) }
 
 pub loop-k-preserved : goal.loop-k-preserved
 loop-k-preserved c =
@@ -68,5 +58,11 @@ pub returns : goal.returns
 returns c =
     let s = c in
     let l = c.loop-k in
-    let all : l.k ≡ length (rows_of s.args.file.now) = omega (arith, l.invariant.1, c.loop-k-test.false, s.pre.0.rows_are) in
+    let all : l.k ≡ length (rows_of s.args.file.now) = omega (arith, l.invariant.1, c.loop-k-test.false, s.requires.found_in.rows_are) in
     rw (rows_all s.args.file.now _ all) at l.invariant.2.put
+
+pub overflow_add-k : goal.overflow_add-k
+overflow_add-k c = omega (arith, c.loop-k-test.true)
+
+pub loop-k-smaller : goal.loop-k-smaller
+loop-k-smaller c = omega (arith, c.loop-k-test.true)

@@ -6,6 +6,8 @@ use native.Mathlib.Omega.{arith}
 use borrow.Author.Tests.{not-false}
 use Rattle.search.proofs.Laws.{part_length}
 use Rattle.search.proofs.Shifts.{agreed-none, agreed-stretch, agreed-rest, common-most}
+use mathlib.Core.Path.{ap}
+use mathlib.Core.Bool.{not}
 use Rattle.search.proofs.horspool.common.Goals as goal
 
 pub loop-i-init : goal.loop-i-init
@@ -17,7 +19,7 @@ loop-i-preserved c =
     let args = at.args in (
       omega arith,
       agreed-stretch args.mark.now args.s.now at.loop-i.i 16 (omega arith) (omega arith)
-          (sym c.same_bytes.ensures ∙ not-false c.same_bytes.result c.if-not-same_bytes.false) at.loop-i.invariant.1,
+          (sym c.same_bytes.ensures ∙ not-false c.same_bytes.result (ap not c.if-not-same_bytes.false)) at.loop-i.invariant.1,
     )
 
 pub common_single-requires : goal.common_single-requires

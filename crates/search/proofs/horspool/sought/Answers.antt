@@ -14,8 +14,7 @@ loop-place-init c =
 pub step-on-requires : goal.step-on-requires
 step-on-requires c =
     let at = c in
-    let args = at.args in
-    ((omega arith, omega (arith, part_length args.s.now at.loop-place.place)), (omega arith, at.shifts-table.ensures))
+    let args = at.args in record { in_bounds = (omega arith, omega (arith, part_length args.s.now at.loop-place.place)); table_len = (omega arith, at.shifts-table.ensures) }
 
 pub returns-then-on-eq0 : goal.returns-then-on-eq0
 returns-then-on-eq0 c =
@@ -34,10 +33,10 @@ loop-place-preserved c =
     (omega arith) stepped.step-on.ensures c.if-on-eq0.false at.loop-place.invariant.2 at.loop-place.invariant.3
 
 pub overflow_add-place : goal.overflow_add-place
-overflow_add-place c = omega (arith, (loop-again c).0)
+overflow_add-place c = omega (arith, (loop-place-preserved c).0)
 
 pub loop-place-smaller : goal.loop-place-smaller
-loop-place-smaller c = omega (arith, (loop-again c).0)
+loop-place-smaller c = omega (arith, (loop-place-preserved c).0)
 
 pub returns : goal.returns
 returns c =

@@ -5,10 +5,9 @@ use Rattle.walk.proofs.cursor.behind.Goals as goal
 
 pub step-s-requires : goal.step-s-requires
 step-s-requires c =
-    let w = c.requires in
-    (w.0.header_is, (w.0.whole, (w.0.few, (w.0.place_is, w.1))))
+    let w = c.requires in record { h_value = w.behind.header_is; number_value = w.behind.whole; i_in_bounds = w.behind.few; at_value = w.behind.place_is; indexed = w.indexed }
 
 pub returns : goal.returns
 returns c =
     let s = c.step-s.ensures in
-    (cursor-behind c.requires.0 s.0 s.1, refl)
+    (cursor-behind c.requires.behind s.0 s.1, refl)

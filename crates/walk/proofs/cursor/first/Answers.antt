@@ -10,5 +10,4 @@ returns-then-h-ne0 c =
 
 pub behind-requires : goal.behind-requires
 behind-requires c =
-    let h = c in
-    (first-behind _ h.header-h.result h.header-h.ensures c.if-h-ne0.false, c.requires)
+    let h = c in record { behind = first-behind _ h.header-h.result h.header-h.ensures c.if-h-ne0.false; indexed = c.requires }

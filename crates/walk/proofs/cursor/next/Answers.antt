@@ -4,12 +4,11 @@ use Rattle.walk.proofs.Cursors.{there, onward}
 use Rattle.walk.proofs.cursor.next.Goals as goal
 
 pub overflow_add-c : goal.overflow_add-c
-overflow_add-c c = let k = c in omega (arith, (there k.requires.0 k.requires.1).turn.few, k.well-formed)
+overflow_add-c c = let k = c in omega (arith, (there k.requires.at k.requires.go_value).turn.few, k.well-formed)
 
 pub overflow_add-c-2 : goal.overflow_add-c-2
-overflow_add-c-2 c = let k = c in omega (arith, (there k.requires.0 k.requires.1).turn.inside, k.well-formed)
+overflow_add-c-2 c = let k = c in omega (arith, (there k.requires.at k.requires.go_value).turn.inside, k.well-formed)
 
 pub behind-requires : goal.behind-requires
 behind-requires c =
-    let k = c in
-    (onward (there k.requires.0 k.requires.1), k.requires.0.indexed)
+    let k = c in record { behind = onward (there k.requires.at k.requires.go_value); indexed = k.requires.at.indexed }

@@ -5,13 +5,13 @@ use Rattle.walk.proofs.Cursors.{onto}
 use Rattle.walk.proofs.cursor.toward.Goals as goal
 
 pub bounds-index-0 : goal.bounds-index-0
-bounds-index-0 c = omega (arith, index-long c.requires.0.indexed)
+bounds-index-0 c = omega (arith, index-long c.requires.at.indexed)
 
 pub overflow_cast-n : goal.overflow_cast-n
 overflow_cast-n c = omega (arith, c.slice_known-2-1.given 0)
 
 pub bounds-index-1 : goal.bounds-index-1
-bounds-index-1 c = omega (arith, index-long c.requires.0.indexed)
+bounds-index-1 c = omega (arith, index-long c.requires.at.indexed)
 
 pub overflow_cast-at : goal.overflow_cast-at
 overflow_cast-at c = omega (arith, c.slice_known-then-n-k-eq1-1.given 1)
@@ -19,7 +19,4 @@ overflow_cast-at c = omega (arith, c.slice_known-then-n-k-eq1-1.given 1)
 pub behind-requires : goal.behind-requires
 behind-requires c =
     let t = c in
-    let k = t in (
-      onto k.pre.0 k.pre.1.0 k.args.k k.pre.1.1 (omega (arith, t.if-k-n.true, t.if-n-k-eq1.true)),
-      indexed-more k.pre.0.indexed (omega (arith, k.pre.1.1)),
-    )
+    let k = t in record { behind = onto k.requires.at k.requires.go_value k.args.k k.requires.row_lt_k (omega (arith, t.if-k-n.true, t.if-n-k-eq1.true)); indexed = indexed-more k.requires.at.indexed (omega (arith, k.requires.row_lt_k)) }

@@ -12,11 +12,10 @@ use Rattle.walk.proofs.earlier.leave.Goals.{Start}
 
 pub rows_ahead-ahead-requires : goal.rows_ahead-ahead-requires
 rows_ahead-ahead-requires c =
-    let k = c in
-    (k.requires.0, (k.requires.1.0, (k.requires.1.1.0, (k.requires.1.1.1.0, k.requires.1.1.1.1.1.1))))
+    let k = c in record { h_value = k.requires.h_value; number_value = k.requires.number_value; i_in_bounds = k.requires.i_in_bounds; at_value = k.requires.at_value; words_len = k.requires.index_len }
 
 begun : (k : Start) → HeaderIs k.args.h k.args.file.now
-begun k = header_is _ k.args.file.now k.requires.0 k.requires.1.0
+begun k = header_is _ k.args.file.now k.requires.h_value k.requires.number_value
 
 pub overflow_cast-index : goal.overflow_cast-index
 overflow_cast-index c = omega (arith, c.rows_ahead-ahead.ensures.1)
@@ -38,7 +37,7 @@ returns-then-i-ahead c =
     let r = c in
     let k = r in
     let e = r.rows_ahead-ahead.ensures in (
-      sym (row-is-new k.args.file.now (begun (goal.at.returns-then-i-ahead c).Start).whole k.args.i k.args.at k.args.place (omega (arith, e.0.there, c.if-i-ahead.true)) k.pre.1.1.1.0 k.pre.1.1.1.1.0),
+      sym (row-is-new k.args.file.now (begun (goal.at.returns-then-i-ahead c).Start).whole k.args.i k.args.at k.args.place (omega (arith, e.0.there, c.if-i-ahead.true)) k.requires.at_value k.requires.place_value),
       indexed-left k.args.file.now r.rows_ahead-ahead.result.rows r.rows_ahead-ahead.result.last (k.args.i + 1) r.rows_ahead-ahead.last.1.1.1.1.1.0 e.3 e.0,
     )
 

@@ -16,12 +16,11 @@ use Rattle.walk.proofs.earlier.met.Goals as goal
 use Rattle.walk.proofs.earlier.met.Goals.{After-hash-hash, Then-index-i}
 
 pub bounds-index-197125 : goal.bounds-index-197125
-bounds-index-197125 c = omega (arith, index-long c.requires.1.1.1.1.1.1)
+bounds-index-197125 c = omega (arith, index-long c.requires.indexed)
 
 pub leave-requires : goal.leave-requires
 leave-requires c =
-    let k = c in
-    (k.pre.0, (k.pre.1.0, (k.pre.1.1.0, (k.pre.1.1.1.0, (k.pre.1.1.1.1.0, (k.pre.1.1.1.1.1.0, k.pre.1.1.1.1.1.1.long))))))
+    let k = c in record { h_value = k.requires.h_value; number_value = k.requires.number_value; i_in_bounds = k.requires.i_in_bounds; at_value = k.requires.at_value; place_value = k.requires.place_value; place_in_bounds = k.requires.place_in_bounds; index_len = k.requires.indexed.long }
 
 pub returns-then-index-ne0 : goal.returns-then-index-ne0
 returns-then-index-ne0 c =
@@ -29,7 +28,7 @@ returns-then-index-ne0 c =
     (l.leave.ensures.0, entered-left _ l.leave.ensures.1)
 
 pub bounds-index-0 : goal.bounds-index-0
-bounds-index-0 c = omega (arith, index-long c.requires.1.1.1.1.1.1)
+bounds-index-0 c = omega (arith, index-long c.requires.indexed)
 
 pub overflow_cast-index : goal.overflow_cast-index
 overflow_cast-index c = omega (arith, c.slice_known-3-1.given 0)
@@ -46,7 +45,7 @@ full c =
     (c.if-index-ne0.false, eqb-true (count_of index) i both.0, ltb-true i 4294967295 both.1)
 
 pub place-slot-requires : goal.place-slot-requires
-place-slot-requires c = c.requires.1.1.1.1.1.1.long
+place-slot-requires c = c.requires.indexed.long
 
 pub bounds-index-slot : goal.bounds-index-slot
 bounds-index-slot c = c.if-slot-index.true
@@ -65,7 +64,7 @@ overflow_cast-index-then-index-slot-eq0 c = omega (arith, (full (goal.at.overflo
 
 pub bounds-index-0-then-index-slot-eq0 : goal.bounds-index-0-then-index-slot-eq0
 bounds-index-0-then-index-slot-eq0 c =
-    simp length-set (omega (arith, index-long c.requires.1.1.1.1.1.1))
+    simp length-set (omega (arith, index-long c.requires.indexed))
 
 pub returns-then-index-slot-eq0 : goal.returns-then-index-slot-eq0
 returns-then-index-slot-eq0 c =
@@ -74,7 +73,7 @@ returns-then-index-slot-eq0 c =
     let h = p in
     let k = h in
     let f = full (goal.at.returns-then-index-slot-eq0 c).Then-index-i in
-    let w = k.pre.1.1.1.1.1.1 in
+    let w = k.requires.indexed in
     let x = part k.args.place 38 k.args.file.now in
     let near = t.if-slot-index.true in (
       sym (place-empty w f.0 f.1 x h.hash-hash.result p.place-slot.result (hash-is (goal.at.returns-then-index-slot-eq0 c).After-hash-hash) p.place-slot.ensures near t.if-index-slot-eq0.true),
@@ -89,13 +88,12 @@ returns-then-rescanned c =
     let k = e in
     let file = k.args.file.now in (
       sym c.if-rescanned.true ∙ rw (s.serial_from.ensures, serial-given file k.args.place) at r.rescanned.ensures,
-      entered-known (part k.args.place 38 file) k.pre.1.1.1.1.1.1,
+      entered-known (part k.args.place 38 file) k.requires.indexed,
     )
 
 pub leave-requires-2 : goal.leave-requires-2
 leave-requires-2 c =
-    let k = c in
-    (k.pre.0, (k.pre.1.0, (k.pre.1.1.0, (k.pre.1.1.1.0, (k.pre.1.1.1.1.0, (k.pre.1.1.1.1.1.0, k.pre.1.1.1.1.1.1.long))))))
+    let k = c in record { h_value = k.requires.h_value; number_value = k.requires.number_value; i_in_bounds = k.requires.i_in_bounds; at_value = k.requires.at_value; place_value = k.requires.place_value; place_in_bounds = k.requires.place_in_bounds; index_len = k.requires.indexed.long }
 
 pub returns : goal.returns
 returns c =

@@ -9,10 +9,9 @@ use Rattle.walk.proofs.earlier.rescanned.Goals as goal
 pub row_between-requires : goal.row_between-requires
 row_between-requires c =
     let k = c in
-    let w = header_is _ k.args.file.now k.requires.0 k.requires.1.0 in
-    (k.requires.0, (k.requires.1.0, (omega arith, (k.requires.1.1, w.end_is ∙ sym (place_none k.args.file.now w.whole)))))
+    let w = header_is _ k.args.file.now k.requires.h_value k.requires.number_value in record { h_value = k.requires.h_value; number_value = k.requires.number_value; i_le_k = omega arith; k_in_bounds = k.requires.i_in_bounds; place_value = w.end_is ∙ sym (place_none k.args.file.now w.whole) }
 
 pub returns : goal.returns
 returns c =
     let k = c in
-    between_known k.args.serial k.args.file.now k.args.i k.requires.1.1 _ c.row_between.ensures
+    between_known k.args.serial k.args.file.now k.args.i k.requires.i_in_bounds _ c.row_between.ensures

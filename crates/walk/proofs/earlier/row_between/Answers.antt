@@ -10,34 +10,32 @@ use Rattle.walk.proofs.earlier.row_between.Goals as goal
 use Rattle.walk.proofs.earlier.row_between.Goals.{After-known_chunk-l, In-loop-j, Start}
 
 begun : (k : Start) → HeaderIs k.args.h k.args.file.now
-begun k = header_is _ k.args.file.now k.requires.0 k.requires.1.0
+begun k = header_is _ k.args.file.now k.requires.h_value k.requires.number_value
 
 in_rows : (c : In-loop-j) → c.loop-j.j < length (rows_of c.args.file.now)
-in_rows c = omega (arith, c.loop-j-test.true, c.requires.1.1.1.0)
+in_rows c = omega (arith, c.loop-j-test.true, c.requires.k_in_bounds)
 
 -- the chunk of row j
 next : (c : After-known_chunk-l) → Turn c.args.file.now c.loop-j.j c.loop-j.at c.known_chunk-l.result
 next c =
-    let in_rows : c.loop-j.j < length (rows_of c.args.file.now) = omega (arith, c.loop-j-test.true, c.requires.1.1.1.0) in
-    let begun : HeaderIs c.args.h c.args.file.now = header_is _ c.args.file.now c.requires.0 c.requires.1.0 in
+    let begun : HeaderIs c.args.h c.args.file.now = header_is _ c.args.file.now c.requires.h_value c.requires.number_value in
+    let in_rows : c.loop-j.j < length (rows_of c.args.file.now) = omega (arith, c.loop-j-test.true, c.requires.k_in_bounds) in
     let k = c in
     turn k.args.file.now begun.whole _ _ _ in_rows c.loop-j.invariant.2 c.known_chunk-l.ensures
 
 pub loop-j-init : goal.loop-j-init
-loop-j-init c = let k = c in (omega arith, k.requires.1.1.0, k.requires.1.1.1.1, λ l. l)
+loop-j-init c = let k = c in (omega arith, k.requires.i_le_k, k.requires.place_value, λ l. l)
 
 pub known_chunk-l-requires : goal.known_chunk-l-requires
 known_chunk-l-requires c =
     let k = c in
     let file = k.args.file.now in
-    let place = c.loop-j.invariant.2 in
-    (k.pre.0, (k.pre.1.0, (place_inside file (begun (goal.at.known_chunk-l-requires c).Start).whole _ _ (omega (arith, in_rows c)) place, place-whole file (begun (goal.at.known_chunk-l-requires c).Start).whole _ _ (in_rows c) place)))
+    let place = c.loop-j.invariant.2 in record { h_value = k.requires.h_value; number_value = k.requires.number_value; at_in_bounds = place_inside file (begun (goal.at.known_chunk-l-requires c).Start).whole _ _ (omega (arith, in_rows c)) place; file_value = place-whole file (begun (goal.at.known_chunk-l-requires c).Start).whole _ _ (in_rows c) place }
 
 pub serial_at-requires : goal.serial_at-requires
 serial_at-requires c =
     let k = c in
-    let w = next c in
-    (k.pre.0, (k.pre.1.0, (omega (arith, w.inside), (c.known_chunk-l.ensures, w.whole))))
+    let w = next c in record { h_value = k.requires.h_value; number_value = k.requires.number_value; at_in_bounds = omega (arith, w.inside); l_value = c.known_chunk-l.ensures; number_value_2 = w.whole }
 
 pub returns-then-same_serial : goal.returns-then-same_serial
 returns-then-same_serial c =

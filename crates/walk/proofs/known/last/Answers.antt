@@ -11,7 +11,7 @@ pub loop-c-init : goal.loop-c-init
 loop-c-init c = c.requires
 
 pub next-c-requires : goal.next-c-requires
-next-c-requires c = (c.loop-c.invariant, c.loop-c-test.true)
+next-c-requires c = record { at = c.loop-c.invariant; go_value = c.loop-c-test.true }
 
 pub loop-c-smaller : goal.loop-c-smaller
 loop-c-smaller c =

@@ -12,15 +12,15 @@ use Rattle.walk.proofs.lookahead.fill.Goals as goal
 use Rattle.walk.proofs.lookahead.fill.Goals.{After-known_chunk-l, In-loop-j, Start}
 
 begun : (k : Start) → HeaderIs k.args.h k.args.file.now
-begun k = header_is _ k.args.file.now k.requires.0 k.requires.1.0
+begun k = header_is _ k.args.file.now k.requires.h_value k.requires.number_value
 
 in_rows : (c : In-loop-j) → c.loop-j.j < length (rows_of c.args.file.now)
-in_rows c = omega (arith, c.loop-j-test.true, c.requires.1.1.0)
+in_rows c = omega (arith, c.loop-j-test.true, c.requires.i_in_bounds)
 
 next : (c : After-known_chunk-l) → Turn c.args.file.now c.loop-j.j c.loop-j.at c.known_chunk-l.result
 next c =
-    let in_rows : c.loop-j.j < length (rows_of c.args.file.now) = omega (arith, c.loop-j-test.true, c.requires.1.1.0) in
-    let begun : HeaderIs c.args.h c.args.file.now = header_is _ c.args.file.now c.requires.0 c.requires.1.0 in
+    let begun : HeaderIs c.args.h c.args.file.now = header_is _ c.args.file.now c.requires.h_value c.requires.number_value in
+    let in_rows : c.loop-j.j < length (rows_of c.args.file.now) = omega (arith, c.loop-j-test.true, c.requires.i_in_bounds) in
     let k = c in
     turn k.args.file.now begun.whole _ _ _ in_rows c.loop-j.invariant.1 c.known_chunk-l.ensures
 
@@ -30,27 +30,24 @@ loop-j-init c =
     let w = begun (goal.at.loop-j-init c).Start in (
       omega arith,
       w.end_is ∙ sym (place_none k.args.file.now w.whole),
-      marked-none k.args.file.now k.args.words.now k.requires.1.1.1,
+      marked-none k.args.file.now k.args.words.now k.requires.words_len,
     )
 
 pub known_chunk-l-requires : goal.known_chunk-l-requires
 known_chunk-l-requires c =
     let k = c in
     let file = k.args.file.now in
-    let place = c.loop-j.invariant.1 in
-    (k.pre.0, (k.pre.1.0, (place_inside file (begun (goal.at.known_chunk-l-requires c).Start).whole _ _ (omega (arith, in_rows c)) place, place-whole file (begun (goal.at.known_chunk-l-requires c).Start).whole _ _ (in_rows c) place)))
+    let place = c.loop-j.invariant.1 in record { h_value = k.requires.h_value; number_value = k.requires.number_value; at_in_bounds = place_inside file (begun (goal.at.known_chunk-l-requires c).Start).whole _ _ (omega (arith, in_rows c)) place; file_value = place-whole file (begun (goal.at.known_chunk-l-requires c).Start).whole _ _ (in_rows c) place }
 
 pub serial_place-requires : goal.serial_place-requires
 serial_place-requires c =
     let l = c in
     let k = l in
-    let w = next (goal.at.serial_place-requires c).After-known_chunk-l in
-    (k.pre.0, (k.pre.1.0, (omega (arith, w.inside), (l.known_chunk-l.ensures, w.whole))))
+    let w = next (goal.at.serial_place-requires c).After-known_chunk-l in record { h_value = k.requires.h_value; number_value = k.requires.number_value; at_in_bounds = omega (arith, w.inside); l_value = l.known_chunk-l.ensures; number_value_2 = w.whole }
 
 pub mark-requires : goal.mark-requires
 mark-requires c =
-    let l = c in
-    (l.loop-j.invariant.2.long, c.serial_place.ensures.1)
+    let l = c in record { words_len = l.loop-j.invariant.2.long; place_in_bounds = c.serial_place.ensures.1 }
 
 pub overflow_add-at : goal.overflow_add-at
 overflow_add-at c = omega (arith, (next (goal.at.overflow_add-at c).After-known_chunk-l).inside)
@@ -73,7 +70,7 @@ loop-j-preserved c =
     )
 
 pub shape_of-words : goal.shape_of-words
-shape_of-words c = omega (arith, c.loop-j.invariant.2.long, c.requires.1.1.1)
+shape_of-words c = omega (arith, c.loop-j.invariant.2.long, c.requires.words_len)
 
 pub returns : goal.returns
 returns c =

@@ -18,8 +18,7 @@ overflow_add-place c = omega (arith, c.shared_slice_known-in-loop-t-1.given c.lo
 
 pub mark-requires : goal.mark-requires
 mark-requires c =
-    let s = c in
-    (s.loop-t.invariant.1, c.if-place-file.true)
+    let s = c in record { words_len = s.loop-t.invariant.1; place_in_bounds = c.if-place-file.true }
 
 pub loop-t-smaller : goal.loop-t-smaller
 loop-t-smaller c = omega (arith, c.loop-t-test.true)

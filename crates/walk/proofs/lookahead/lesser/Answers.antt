@@ -12,12 +12,11 @@ hash-is : (c : After-hash) → c.hash.result ≡ hash_of (part c.args.place 38 c
 hash-is c = hash-given c.args.file.now c.args.place c.hash.result c.hash.ensures
 
 pub covered-requires : goal.covered-requires
-covered-requires c = omega (arith, c.requires.0, sized)
+covered-requires c = omega (arith, c.requires.words_len, sized)
 
 pub next_same-next-requires : goal.next_same-next-requires
 next_same-next-requires c =
-    let k = c in
-    (k.pre.1.1.0, (omega (arith, k.pre.1.0), k.pre.1.1.1.1))
+    let k = c in record { file_len_bound = k.requires.file_len_bound; p_in_bounds = omega (arith, k.requires.place_in_bounds); places_value = k.requires.noted_value }
 
 pub returns-then-next-least : goal.returns-then-next-least
 returns-then-next-least c = (omega (arith, c.if-next-least.true), before-next c.next_same-next.ensures)
@@ -30,6 +29,6 @@ returns-else-covered c =
     let h = c in
     let k = h in (
       omega arith,
-      before-none k.pre.1.1.1.0 k.args.place k.args.least
+      before-none k.requires.hashed k.args.place k.args.least
           (rw (← hash-is (goal.at.returns-else-covered c).After-hash) (sym c.covered.ensures ∙ c.if-covered.false)),
     )

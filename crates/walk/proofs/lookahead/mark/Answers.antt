@@ -6,11 +6,11 @@ use Rattle.index.proofs.Laws.{sized, hash-given}
 use Rattle.walk.proofs.lookahead.mark.Goals as goal
 
 pub cover-requires : goal.cover-requires
-cover-requires c = omega (arith, c.requires.0, sized)
+cover-requires c = omega (arith, c.requires.words_len, sized)
 
 pub returns : goal.returns
 returns c =
     let h = c in
     let a = h.args in
     c.cover.ensures
-    ∙ ap (λ x. covering x a.words-1.now) (hash-given a.file.now a.place h.hash.result h.hash.ensures)
+    ∙ ap (λ x. covering x a.words.now) (hash-given a.file.now a.place h.hash.result h.hash.ensures)

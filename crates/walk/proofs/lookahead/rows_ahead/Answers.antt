@@ -8,8 +8,7 @@ use Rattle.walk.proofs.lookahead.rows_ahead.Goals as goal
 pub rows_noted-requires : goal.rows_noted-requires
 rows_noted-requires c =
     let e = c in
-    let k = e in
-    (k.pre.0, (k.pre.1.0, (k.pre.1.1.0, (k.pre.1.1.1.0, (omega (arith, e.if-file-gt-LIMIT.false), (k.pre.1.1.1.1, length-replicate {A = ℕ} 40000 0))))))
+    let k = e in record { h_value = k.requires.h_value; number_value = k.requires.number_value; i_in_bounds = k.requires.i_in_bounds; at_value = k.requires.at_value; file_len_bound = omega (arith, e.if-file-gt-LIMIT.false); words_len = k.requires.words_len; places_len = length-replicate {A = ℕ} 40000 0 }
 
 pub returns : goal.returns
 returns c =

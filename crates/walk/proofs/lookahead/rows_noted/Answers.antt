@@ -17,4 +17,4 @@ compare-requires c =
     let kept = a.arrange.ensures.0 in
     let back = noted_back places a.arrange.last.1.1.0 m (omega (arith, e.1, e.3)) kept in
     rw back
-    (k.pre.0, (k.pre.1.0, (k.pre.1.1.1.1.0, (a.arrange.ensures.2, (looked-kept e.0 (rw (noted-given places m) at kept), (a.arrange.ensures.1, rw back at (sym r.rising.ensures ∙ t.if-rising.true)))))))
+    (k.requires.h_value, (k.requires.number_value, (k.requires.file_len_bound, (a.arrange.ensures.2, (looked-kept e.0 (rw (noted-given places m) at kept), (a.arrange.ensures.1, rw back at (sym r.rising.ensures ∙ t.if-rising.true)))))))

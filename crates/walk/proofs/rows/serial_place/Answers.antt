@@ -10,14 +10,14 @@ use Rattle.walk.proofs.rows.serial_place.Goals as goal
 use Rattle.walk.proofs.rows.serial_place.Goals.{Start}
 
 here : (k : Start) → Stands k.args.file.now k.args.at k.args.l
-here k = stands k.args.file.now k.args.at k.args.l k.requires.1.1.0 k.requires.1.1.1.0 k.requires.1.1.1.1
+here k = stands k.args.file.now k.args.at k.args.l k.requires.at_in_bounds k.requires.l_value k.requires.number_value_2
 
 place : (k : Start)
     → let a = k.args in
     a.at + a.l.contents + a.l.bytes + a.h.mark + 20 ≡ serial_at a.file.now a.at
 place k =
-    let w = header_is _ k.args.file.now k.requires.0 k.requires.1.0 in
-    serial-place-is k.args.file.now w.whole k.args.at k.args.l k.requires.1.1.1.0 k.requires.1.1.1.1 k.args.h.mark
+    let w = header_is _ k.args.file.now k.requires.h_value k.requires.number_value in
+    serial-place-is k.args.file.now w.whole k.args.at k.args.l k.requires.l_value k.requires.number_value_2 k.args.h.mark
     w.mark-is
 
 inside : (k : Start)

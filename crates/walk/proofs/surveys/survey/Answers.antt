@@ -47,14 +47,13 @@ overflow_add-c c = omega (arith, (here (goal.at.overflow_add-c c).In-loop-c).tur
 
 pub serial_at-requires : goal.serial_at-requires
 serial_at-requires c =
-    let w = here (goal.at.serial_at-requires c).In-loop-c in
-    (w.behind.header_is, (w.behind.whole, (omega (arith, w.turn.inside), (w.turn.layout_is, w.turn.whole))))
+    let w = here (goal.at.serial_at-requires c).In-loop-c in record { h_value = w.behind.header_is; number_value = w.behind.whole; at_in_bounds = omega (arith, w.turn.inside); l_value = w.turn.layout_is; number_value_2 = w.turn.whole }
 
 pub slice_bounds-next-end : goal.slice_bounds-next-end
 slice_bounds-next-end c = sym (index-long c.loop-c.invariant.0.indexed)
 
 pub next-c-requires : goal.next-c-requires
-next-c-requires c = (c.loop-c.invariant.0, c.loop-c-test.true)
+next-c-requires c = record { at = c.loop-c.invariant.0; go_value = c.loop-c-test.true }
 
 pub loop-c-smaller : goal.loop-c-smaller
 loop-c-smaller c = omega (arith, (here (goal.at.loop-c-smaller c).In-loop-c).turn.row, c.next-c.ensures.1)

@@ -7,11 +7,10 @@ use Rattle.walk.proofs.walks.row_behind.Goals as goal
 pub returns-then-named-ne0 : goal.returns-then-named-ne0
 returns-then-named-ne0 c =
     let k = c in
-    (named-later _ _ _ k.requires.1.0 _ k.requires.0 c.if-named-ne0.true, indexed-more k.requires.1.1 (omega arith))
+    (named-later _ _ _ k.requires.m_le_k _ k.requires.named_value c.if-named-ne0.true, indexed-more k.requires.indexed (omega arith))
 
 pub reached-requires : goal.reached-requires
 reached-requires c =
     let e = c in
     let k = e in
-    let w = named _ _ _ k.requires.0 e.if-named-ne0.false in
-    (named-at w k.requires.1.1, (omega (arith, w.row_is), named_small w))
+    let w = named _ _ _ k.requires.named_value e.if-named-ne0.false in record { at = named-at w k.requires.indexed; row_le_k = omega (arith, w.row_is); file_len_bound = named_small w }

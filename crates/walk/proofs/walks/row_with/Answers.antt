@@ -12,7 +12,7 @@ use Rattle.walk.proofs.walks.row_with.Goals.{In-loop-c, Start}
 
 -- the row at which it is asked
 own : (k : Start) → There k.args.file.now k.args.own
-own k = there k.requires.0 k.requires.1.0
+own k = there k.requires.at k.requires.go_value
 
 -- the row of the cursor
 here : (c : In-loop-c) → There c.args.file.now c.loop-c.c
@@ -21,8 +21,7 @@ here c = there c.loop-c.invariant.0 c.loop-c-test.true
 pub row_before-before-requires : goal.row_before-before-requires
 row_before-before-requires c =
     let k = c in
-    let w = own (goal.at.row_before-before-requires c).Start in
-    (w.behind.header_is, (w.behind.whole, (k.requires.1.1.0, (w.behind.few, k.requires.1.1.1))))
+    let w = own (goal.at.row_before-before-requires c).Start in record { h_value = w.behind.header_is; number_value = w.behind.whole; m_le_i = k.requires.m_le_row; i_in_bounds = w.behind.few; place_value = k.requires.place_value }
 
 pub returns-then-before : goal.returns-then-before
 returns-then-before c = c.row_before-before.ensures.1 c.if-before.true
@@ -31,16 +30,15 @@ pub loop-c-init : goal.loop-c-init
 loop-c-init c =
     let r = c in
     let k = r in
-    (k.requires.0, sym (r.row_before-before.ensures.0 ∙ known-with k.args.serial (rows_of k.args.file.now) _ (own (goal.at.loop-c-init c).Start).behind.few) ∙ c.if-before.false)
+    (k.requires.at, sym (r.row_before-before.ensures.0 ∙ known-with k.args.serial (rows_of k.args.file.now) _ (own (goal.at.loop-c-init c).Start).behind.few) ∙ c.if-before.false)
 
 pub serial_at-requires : goal.serial_at-requires
 serial_at-requires c =
     let k = own (goal.at.serial_at-requires c).Start in
-    let w = here (goal.at.serial_at-requires c).In-loop-c in
-    (k.behind.header_is, (k.behind.whole, (omega (arith, w.turn.inside), (w.turn.layout_is, w.turn.whole))))
+    let w = here (goal.at.serial_at-requires c).In-loop-c in record { h_value = k.behind.header_is; number_value = k.behind.whole; at_in_bounds = omega (arith, w.turn.inside); l_value = w.turn.layout_is; number_value_2 = w.turn.whole }
 
 pub shape_of-index-then-same_serial : goal.shape_of-index-then-same_serial
-shape_of-index-then-same_serial c = let l = c in index-long l.loop-c.invariant.0.indexed ∙ sym (index-long l.requires.0.indexed)
+shape_of-index-then-same_serial c = let l = c in index-long l.loop-c.invariant.0.indexed ∙ sym (index-long l.requires.at.indexed)
 
 pub returns-then-same_serial : goal.returns-then-same_serial
 returns-then-same_serial c =
@@ -50,7 +48,7 @@ returns-then-same_serial c =
     numbered-here l.args.serial l.args.file.now w.begun _ _ w.turn.row w.behind.place_is _ _ a.serial_at.ensures c.same_serial.ensures l.loop-c.invariant.1 c.if-same_serial.true
 
 pub next-c-requires : goal.next-c-requires
-next-c-requires c = let i = c in (i.loop-c.invariant.0, i.loop-c-test.true)
+next-c-requires c = let i = c in record { at = i.loop-c.invariant.0; go_value = i.loop-c-test.true }
 
 pub loop-c-smaller : goal.loop-c-smaller
 loop-c-smaller c = let n = c in omega (arith, (here (goal.at.loop-c-smaller c).In-loop-c).turn.row, n.next-c.ensures.1)
@@ -68,7 +66,7 @@ loop-c-preserved c =
     )
 
 pub shape_of-index : goal.shape_of-index
-shape_of-index c = let l = c in index-long l.loop-c.invariant.0.indexed ∙ sym (index-long l.requires.0.indexed)
+shape_of-index c = let l = c in index-long l.loop-c.invariant.0.indexed ∙ sym (index-long l.requires.at.indexed)
 
 pub returns : goal.returns
 returns c =

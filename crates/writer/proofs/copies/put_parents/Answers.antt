@@ -43,7 +43,7 @@ use Rattle.writer.proofs.copies.put_parents.Goals as goal
 use Rattle.writer.proofs.copies.put_parents.Goals.{Start}
 
 file-long : (s : Start) → size (take s.args.length s.args.buffer.now) ≡ s.args.length
-file-long s = length-take-le s.args.length s.args.buffer.now (omega (arith, s.requires.0.0, s.requires.0.1))
+file-long s = length-take-le s.args.length s.args.buffer.now (omega (arith, s.requires.length_le_at.0, s.requires.length_le_at.1))
 
 pub loop-i-init : goal.loop-i-init
 loop-i-init c = (omega arith, omega arith, refl, refl, refl)
@@ -85,7 +85,7 @@ put_parent-p-requires c =
     let inv = at.loop-i.invariant in
     let p-is = inv.1 in
     let long = inv.2 in
-    let room = start.requires.0.1 in
+    let room = start.requires.length_le_at.1 in
     let whole = file-long (goal.at.put_parent-p-requires c).Start in
     (omega arith, omega (arith, name-here here, inside-here here))
 
@@ -106,12 +106,12 @@ loop-i-preserved c =
     let inv = at.loop-i.invariant in
     let p-is = inv.1 in
     let long = inv.2 in
-    let room = start.requires.0.1 in
-    let before = start.requires.0.0 in
+    let room = start.requires.length_le_at.1 in
+    let before = start.requires.length_le_at.0 in
     let next = put.put_parent-p.ensures.0 in
     let put_is = put.put_parent-p.ensures.1 in
-    let from : ℕ = get_or start.args.t7 at.loop-i.i 0 - (start.args.mark + 234) in
-    let name : ℕ = get_or start.args.t6 at.loop-i.i 0 + 46 in
+    let from : ℕ = get_or start.args.ends at.loop-i.i 0 - (start.args.mark + 234) in
+    let name : ℕ = get_or start.args.places at.loop-i.i 0 + 46 in
     let whole = file-long (goal.at.loop-i-preserved c).Start in
     let rest : 38 ≤ size at.loop-i.buffer - from = omega (arith, serial-here here, inside-here here) in
     let serial-is : taken.serial_from-serial.result ≡ part from 38 (take start.args.length start.args.buffer.now) =
@@ -121,7 +121,7 @@ loop-i-preserved c =
       omega arith,
       omega (arith, put.put_parent-p.auto.0),
       ap (take start.args.length) put_is ∙ take-placed start.args.length at.loop-i.p _ at.loop-i.buffer (omega arith) (omega arith) ∙ inv.3,
-      parents-more (take start.args.length start.args.buffer.now) start.args.parents.now start.requires.1.below at.loop-i.i (omega arith) at.loop-i.p put.put_parent-p.result at.loop-i.buffer put.put_parent-p.new.buffer _
+      parents-more (take start.args.length start.args.buffer.now) start.args.parents.now start.requires.located.below at.loop-i.i (omega arith) at.loop-i.p put.put_parent-p.result at.loop-i.buffer put.put_parent-p.new.buffer _
           inv.4 (omega arith) next
           (put_is ∙ rw (serial-is, name-is, lines-here here)),
     )

@@ -7,7 +7,7 @@ use Rattle.writer.proofs.Joined.{integrity-put}
 use Rattle.writer.proofs.values.integrity_values.Goals as goal
 use Rattle.writer.proofs.values.integrity_values.Goals.{Start}
 
-lengths : (s : Start) → (length s.args.t1 ≡ 38) × (length s.args.t2 ≡ 8) × (length s.args.t4 ≡ 8)
+lengths : (s : Start) → (length s.args.serial ≡ 38) × (length s.args.recorded ≡ 8) × (length s.args.written ≡ 8)
 lengths s = (search rules, search rules, search rules)
 
 pub returns : goal.returns
@@ -18,7 +18,7 @@ returns c =
     let put₂ = put₃ in
     let put₁ = put₂ in
     let start = put₁ in
-    integrity-put start.args.t1 start.args.t2 start.args.recorder.now start.args.t4 start.args.writer.now
+    integrity-put start.args.serial start.args.recorded start.args.recorder.now start.args.written start.args.writer.now
     put₁.put_bytes.new.buffer put₂.put_bytes-2.new.buffer put₃.put_bytes-3.new.buffer put₄.put_bytes-4.new.buffer put₅.put_bytes-5.new.buffer
     (lengths (goal.at.returns c).Start).0 (lengths (goal.at.returns c).Start).1 start.requires.0 (lengths (goal.at.returns c).Start).2 start.requires.1
     put₁.put_bytes.ensures.1 put₂.put_bytes-2.ensures.1 put₃.put_bytes-3.ensures.1 put₄.put_bytes-4.ensures.1 put₅.put_bytes-5.ensures.1
