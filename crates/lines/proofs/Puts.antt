@@ -16,6 +16,7 @@ use lib.Dec.{eqb}
 use lib.ListN.{length, take, drop, set, length-append, length-take, length-drop, take-append-drop, drop_of_length-le}
 use lib.Seq.{length-take-le, take-length, drop_at, drop-drop, drop-append-le, take-append-add, take-append_seam, take-set-le, set_split}
 use borrow.Author.Tests.{eq-eqb, ne_eqb}
+use borrow.Rule.Slice.PartMut.{put_mid}
 use Rattle.metafile.specs.Bytes.{part, sum}
 use Rattle.metafile.specs.Fields.{digits_of}
 use Rattle.metafile.specs.Lines.{Kind, Field, fixed, value, Line, lf, opened, lines_of, width, field_width, kind_fault, fault, size, first_of, others_of, put, left, write, formed, checksum, table}
@@ -103,13 +104,12 @@ placed-byte q x c h =
     let more = put-more q 0 (x ∷ []) c (omega arith) (omega arith) in
     rw (placed-nothing q c, z) at more
 
--- bytes copied into the part of a buffer that starts at a place
-pub copied : (at : ℕ) (s b ys : List ℕ) → ys ≡ take (length s) s ++ drop (length s) (take (length b - at) (drop at b))
-    → take at b ++ (ys ++ drop (length b - at) (drop at b)) ≡ placed at s b
+-- bytes copied into the part of a buffer that starts at a place and is as long
+pub copied : (at : ℕ) (s b ys : List ℕ) → ys ≡ s → put_mid at (at + length s - at) b ys ≡ placed at s b
 unfolding placed
 copied at s b ys e =
-    let none : drop (length b - at) (drop at b) ≡ [] = drop_of_length-le (drop at b) (le_of_eq (length-drop at b)) in
-    rw (e, none, append-nil, part-drop b at, take-length s, drop-drop (length s) at b)
+    let long : at + length s - at ≡ length s = omega arith in
+    rw (e, long, drop-drop (length s) at b)
 
 -- ---- a line, and the lines behind it
 

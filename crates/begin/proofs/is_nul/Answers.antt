@@ -10,4 +10,4 @@ pub returns : goal.returns
 unfolding word_no
 returns c =
     let long : length c.args.strategy ≡ 3 = search rules in
-    rw (part-whole c.args.strategy 3 long) at c.is_is_word.ensures
+    rw (part-whole c.args.strategy 3 long) at c.is_word.ensures

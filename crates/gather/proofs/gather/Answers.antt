@@ -50,7 +50,7 @@ inside c =
     let w = own in omega (arith, w.lies.contents-inside, w.contents-is)
 
 pub overflow_add-at : goal.overflow_add-at
-overflow_add-at c = omega (arith, inside (goal.at.overflow_add-at c).Else-id-gt-ID, c.well-formed.0)
+overflow_add-at c = omega (arith, inside (goal.at.overflow_add-at c).Else-id-gt-ID, c.well_formed.0)
 
 pub slice_bounds-gather_from-count : goal.slice_bounds-gather_from-count
 slice_bounds-gather_from-count c = inside (goal.at.slice_bounds-gather_from-count c).Else-id-gt-ID

@@ -38,16 +38,16 @@ inside c =
     dependency-inside _ _ _ _ own (has c)
 
 pub overflow_add-at : goal.overflow_add-at
-overflow_add-at c = omega (arith, inside (goal.at.overflow_add-at c).Else-own-dependency, c.well-formed)
+overflow_add-at c = omega (arith, inside (goal.at.overflow_add-at c).Else-own-dependency, c.well_formed)
 
 pub overflow_mul-at : goal.overflow_mul-at
-overflow_mul-at c = omega (arith, inside (goal.at.overflow_mul-at c).Else-own-dependency, c.well-formed)
+overflow_mul-at c = omega (arith, inside (goal.at.overflow_mul-at c).Else-own-dependency, c.well_formed)
 
 pub overflow_add-at-2 : goal.overflow_add-at-2
-overflow_add-at-2 c = omega (arith, inside (goal.at.overflow_add-at-2 c).Else-own-dependency, c.well-formed)
+overflow_add-at-2 c = omega (arith, inside (goal.at.overflow_add-at-2 c).Else-own-dependency, c.well_formed)
 
 pub overflow_add-at-3 : goal.overflow_add-at-3
-overflow_add-at-3 c = omega (arith, inside (goal.at.overflow_add-at-3 c).Else-own-dependency, c.well-formed)
+overflow_add-at-3 c = omega (arith, inside (goal.at.overflow_add-at-3 c).Else-own-dependency, c.well_formed)
 
 pub serial_at-serial-requires : goal.serial_at-serial-requires
 serial_at-serial-requires c = omega (arith, inside (goal.at.serial_at-serial-requires c).Else-own-dependency)
@@ -78,7 +78,7 @@ found c =
 pub overflow_add-subformat : goal.overflow_add-subformat
 overflow_add-subformat c =
     let w = found (goal.at.overflow_add-subformat c).Else-not-found in
-    omega (arith, w.lies.dependencies-inside, w.place_is, c.well-formed)
+    omega (arith, w.lies.dependencies-inside, w.place_is, c.well_formed)
 
 pub overflow_add-at-4 : goal.overflow_add-at-4
 overflow_add-at-4 c = let e = c in omega (arith, inside (goal.at.overflow_add-at-4 c).Else-own-dependency, e.good)

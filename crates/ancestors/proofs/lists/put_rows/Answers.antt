@@ -34,7 +34,7 @@ offset_bounds-list-used c =
     omega (
       arith,
       put c,
-      l.well-formed,
+      l.well_formed,
       put-long _ _ l.args.list.now l.loop-i.list l.loop-i.i l.args.n l.loop-i.invariant.0.few l.requires.n_in_bounds_2 l.loop-i.invariant.1,
     )
 

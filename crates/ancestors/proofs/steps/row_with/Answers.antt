@@ -10,7 +10,7 @@ use Rattle.ancestors.proofs.steps.row_with.Goals as goal
 use Rattle.ancestors.proofs.steps.row_with.Goals.{After-same_bytes, After-shared_slice_known-in-loop-i-1}
 
 pub overflow_add-end : goal.overflow_add-end
-overflow_add-end c = omega (arith, c.well-formed)
+overflow_add-end c = omega (arith, c.well_formed)
 
 pub loop-i-init : goal.loop-i-init
 loop-i-init c = omega arith

@@ -30,7 +30,7 @@ returns c =
     let word = c in
     let start = c in
     let long : length start.args.generic ≡ 3 = search rules in
-    open_is start.args.file.now start.args.generic start.args.contents.now _ start.args.«open» start.args.h.llc word.is_is_word.result c.first_found.result
+    open_is start.args.file.now start.args.generic start.args.contents.now _ start.args.«open» start.args.h.llc word.is_word.result c.first_found.result
     (not-false _ (ap not c.if-not-open.false)) long
     (llc-found start.args.file.now start.args.h start.requires.h_value start.requires.number_value) (mark-found start.args.file.now start.args.h start.requires.h_value start.requires.number_value)
-    c.first_found.ensures word.is_is_word.ensures
+    c.first_found.ensures word.is_word.ensures

@@ -12,13 +12,13 @@ pub is_word-requires : goal.is_word-requires
 is_word-requires c = (omega (arith, head-long c.args.s.now c.requires), omega arith)
 
 pub returns-then-is_word : goal.returns-then-is_word
-returns-then-is_word c = offset-synch c.args.s.now _ c.is_is_word.ensures c.if-is_word.true
+returns-then-is_word c = offset-synch c.args.s.now _ c.is_word.ensures c.if-is_word.true
 
 pub is_word-requires-2 : goal.is_word-requires-2
 is_word-requires-2 c = (omega (arith, head-long c.args.s.now c.requires), omega arith)
 
 pub returns-then-is_word-2 : goal.returns-then-is_word-2
-returns-then-is_word-2 c = offset-standard c.args.s.now _ c.is_is_word.ensures c.if-is_word.false _ c.is_word-2.ensures c.if-is_word-2.true
+returns-then-is_word-2 c = offset-standard c.args.s.now _ c.is_word.ensures c.if-is_word.false _ c.is_word-2.ensures c.if-is_word-2.true
 
 pub slice_bounds-offset_value-end : goal.slice_bounds-offset_value-end
 slice_bounds-offset_value-end c = omega (arith, head-long c.args.s.now c.requires)
@@ -31,4 +31,4 @@ offset_value-requires c =
 pub returns : goal.returns
 returns c =
     to_z-of_z (record { sfits = c.offset_value.type_inv })
-    ∙ offset-given c.args.s.now _ c.is_is_word.ensures c.if-is_word.false _ c.is_word-2.ensures c.if-is_word-2.false _ c.offset_value.ensures
+    ∙ offset-given c.args.s.now _ c.is_word.ensures c.if-is_word.false _ c.is_word-2.ensures c.if-is_word-2.false _ c.offset_value.ensures

@@ -21,7 +21,7 @@ returns-then-is_word c =
     let v = part args.at 3 args.s.now in
     c.serial_fault.ensures
     ∙ stamp-serial (NUL ∷ []) (SLV ∷ MAS ∷ []) args.s.now args.at (omega arith)
-    (word_two SLV MAS v _ _ c.is_is_word.ensures c.is_word-2.ensures ∙ c.if-is_word.true)
+    (word_two SLV MAS v _ _ c.is_word.ensures c.is_word-2.ensures ∙ c.if-is_word.true)
 
 pub returns-then-is_word-2 : goal.returns-then-is_word-2
 unfolding event_synch word_no
@@ -30,7 +30,7 @@ returns-then-is_word-2 c =
     let v = part args.at 3 args.s.now in
     c.free_fault.ensures
     ∙ stamp-free (NUL ∷ []) (SLV ∷ MAS ∷ []) args.s.now args.at (omega arith) (word-one NUL v _ c.is_word-3.ensures ∙ c.if-is_word-2.true)
-    (word_two SLV MAS v _ _ c.is_is_word.ensures c.is_word-2.ensures ∙ c.if-is_word.false)
+    (word_two SLV MAS v _ _ c.is_word.ensures c.is_word-2.ensures ∙ c.if-is_word.false)
 
 pub returns : goal.returns
 unfolding event_synch word_no
@@ -38,4 +38,4 @@ returns c =
     let args = c.args in
     let v = part args.at 3 args.s.now in
     stamp-other (NUL ∷ []) (SLV ∷ MAS ∷ []) args.s.now args.at (omega arith) (word-one NUL v _ c.is_word-3.ensures ∙ c.if-is_word-2.false)
-    (word_two SLV MAS v _ _ c.is_is_word.ensures c.is_word-2.ensures ∙ c.if-is_word.false)
+    (word_two SLV MAS v _ _ c.is_word.ensures c.is_word-2.ensures ∙ c.if-is_word.false)

@@ -20,7 +20,7 @@ returns-then-is_word c =
     let args = c.args in
     let v = part args.at 3 args.s.now in
     c.serial_fault.ensures
-    ∙ stamp-serial (UTC ∷ NUL ∷ []) (ALT ∷ []) args.s.now args.at (omega arith) (word-one ALT v _ c.is_is_word.ensures ∙ c.if-is_word.true)
+    ∙ stamp-serial (UTC ∷ NUL ∷ []) (ALT ∷ []) args.s.now args.at (omega arith) (word-one ALT v _ c.is_word.ensures ∙ c.if-is_word.true)
 
 pub returns-then-is_word-2 : goal.returns-then-is_word-2
 unfolding time_standard word_no
@@ -30,7 +30,7 @@ returns-then-is_word-2 c =
     c.free_fault.ensures
     ∙ stamp-free (UTC ∷ NUL ∷ []) (ALT ∷ []) args.s.now args.at (omega arith)
     (word_two UTC NUL v _ _ c.is_word-2.ensures c.is_word-3.ensures ∙ c.if-is_word-2.true)
-    (word-one ALT v _ c.is_is_word.ensures ∙ c.if-is_word.false)
+    (word-one ALT v _ c.is_word.ensures ∙ c.if-is_word.false)
 
 pub returns : goal.returns
 unfolding time_standard word_no
@@ -39,4 +39,4 @@ returns c =
     let v = part args.at 3 args.s.now in
     stamp-other (UTC ∷ NUL ∷ []) (ALT ∷ []) args.s.now args.at (omega arith)
     (word_two UTC NUL v _ _ c.is_word-2.ensures c.is_word-3.ensures ∙ c.if-is_word-2.false)
-    (word-one ALT v _ c.is_is_word.ensures ∙ c.if-is_word.false)
+    (word-one ALT v _ c.is_word.ensures ∙ c.if-is_word.false)

@@ -18,4 +18,4 @@ returns c =
     let args = c.args in
     judged-part 3 (word_fault (word_no args.a ∷ word_no args.b ∷ [])) args.s.now args.at c.verdict.result (omega arith)
     (c.verdict.ensures
-    ∙ either-own (word_no args.a) (word_no args.b) (part args.at 3 args.s.now) _ _ c.is_is_word.ensures c.is_word-2.ensures)
+    ∙ either-own (word_no args.a) (word_no args.b) (part args.at 3 args.s.now) _ _ c.is_word.ensures c.is_word-2.ensures)

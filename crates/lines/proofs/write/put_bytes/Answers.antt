@@ -1,10 +1,7 @@
 -- `lines::write::put_bytes` meets its contract. Assumes nothing.
+use Rattle.std.proofs.Common.{refl, arith, length, ◌+◌, ◌-◌, ◌≡◌}
 use Rattle.lines.proofs.Puts.{copied}
-use native.Mathlib.Omega.{arith}
 use Rattle.lines.proofs.write.put_bytes.Goals as goal
 
 pub returns : goal.returns
-returns c =
-    let args = c.args in
-    let copy = c.copy in
-    (omega (arith, copy.ensures.0), copied args.at args.s.now args.buffer.now copy.new.1.0 copy.ensures.1)
+returns c = (refl, copied c.args.at c.args.s.now c.args.buffer.now c.copy_from_slice.new.self c.copy_from_slice.ensures.after)

@@ -9,14 +9,14 @@ pub put_lines-label-requires : goal.put_lines-label-requires
 put_lines-label-requires c =
     let pre = c.requires in
     let mark = c.put_bytes-lines in
-    omega (arith, pre, mark.ensures.0, mark.auto.0, integrity-size, integrity-values, checksum-label)
+    omega (arith, pre, mark.ensures.0, mark.auto.buffer, integrity-size, integrity-values, checksum-label)
 
 pub put_label-digits-requires : goal.put_label-digits-requires
 put_label-digits-requires c =
     let pre = c.requires in
     let mark = c.put_bytes-lines in
     let lines = c.put_lines-label in
-    omega (arith, pre, mark.ensures.0, mark.auto.0, lines.ensures.0, lines.auto.0, integrity-size, integrity-values, checksum-label)
+    omega (arith, pre, mark.ensures.0, mark.auto.buffer, lines.ensures.0, lines.auto.buffer, integrity-size, integrity-values, checksum-label)
 
 pub slice_bounds-word_sum-end : goal.slice_bounds-word_sum-end
 slice_bounds-word_sum-end c =
@@ -24,7 +24,7 @@ slice_bounds-word_sum-end c =
     let mark = c.put_bytes-lines in
     let lines = c.put_lines-label in
     let label = c.put_label-digits in
-    omega (arith, pre, mark.ensures.0, mark.auto.0, lines.ensures.0, lines.auto.0, label.ensures.0, label.auto.0, integrity-size, integrity-values, checksum-label)
+    omega (arith, pre, mark.ensures.0, mark.auto.buffer, lines.ensures.0, lines.auto.buffer, label.ensures.0, label.auto.buffer, integrity-size, integrity-values, checksum-label)
 
 pub put_number-end-requires : goal.put_number-end-requires
 put_number-end-requires c =
@@ -32,7 +32,7 @@ put_number-end-requires c =
     let mark = c.put_bytes-lines in
     let lines = c.put_lines-label in
     let label = c.put_label-digits in
-    omega (arith, pre, mark.ensures.0, mark.auto.0, lines.ensures.0, lines.auto.0, label.ensures.0, label.auto.0, integrity-size, integrity-values, checksum-label)
+    omega (arith, pre, mark.ensures.0, mark.auto.buffer, lines.ensures.0, lines.auto.buffer, label.ensures.0, label.auto.buffer, integrity-size, integrity-values, checksum-label)
 
 pub bounds-buffer-end : goal.bounds-buffer-end
 bounds-buffer-end c =
@@ -41,7 +41,7 @@ bounds-buffer-end c =
     let lines = c.put_lines-label in
     let label = c.put_label-digits in
     let digits = c.put_number-end in
-    omega (arith, pre, mark.ensures.0, mark.auto.0, lines.ensures.0, lines.auto.0, label.ensures.0, label.auto.0, digits.ensures.0, digits.auto.0, integrity-size, integrity-values, checksum-label)
+    omega (arith, pre, mark.ensures.0, mark.auto.buffer, lines.ensures.0, lines.auto.buffer, label.ensures.0, label.auto.buffer, digits.ensures.0, digits.auto.buffer, integrity-size, integrity-values, checksum-label)
 
 pub overflow_add-end : goal.overflow_add-end
 overflow_add-end c =
@@ -50,7 +50,7 @@ overflow_add-end c =
     let lines = c.put_lines-label in
     let label = c.put_label-digits in
     let digits = c.put_number-end in
-    omega (arith, pre, c.well-formed.0.0, mark.ensures.0, mark.auto.0, lines.ensures.0, lines.auto.0, label.ensures.0, label.auto.0, digits.ensures.0, digits.auto.0, integrity-size, integrity-values, checksum-label)
+    omega (arith, pre, c.well_formed.0.0, mark.ensures.0, mark.auto.buffer, lines.ensures.0, lines.auto.buffer, label.ensures.0, label.auto.buffer, digits.ensures.0, digits.auto.buffer, integrity-size, integrity-values, checksum-label)
 
 pub put_bytes-requires : goal.put_bytes-requires
 put_bytes-requires c =
@@ -59,7 +59,7 @@ put_bytes-requires c =
     let lines = c.put_lines-label in
     let label = c.put_label-digits in
     let digits = c.put_number-end in
-    simp length-set (omega (arith, pre, mark.ensures.0, mark.auto.0, lines.ensures.0, lines.auto.0, label.ensures.0, label.auto.0, digits.ensures.0, digits.auto.0, integrity-size, integrity-values, checksum-label))
+    simp length-set (omega (arith, pre, mark.ensures.0, mark.auto.buffer, lines.ensures.0, lines.auto.buffer, label.ensures.0, label.auto.buffer, digits.ensures.0, digits.auto.buffer, integrity-size, integrity-values, checksum-label))
 
 pub shape_of-buffer : goal.shape_of-buffer
 shape_of-buffer c =
@@ -69,7 +69,7 @@ shape_of-buffer c =
     let label = c.put_label-digits in
     let digits = c.put_number-end in
     let last = c.put_bytes in
-    simp length-set at last.auto.0 ∙ digits.auto.0 ∙ label.auto.0 ∙ lines.auto.0 ∙ mark.auto.0
+    simp length-set at last.auto.buffer ∙ digits.auto.buffer ∙ label.auto.buffer ∙ lines.auto.buffer ∙ mark.auto.buffer
 
 pub returns : goal.returns
 returns c =
@@ -81,4 +81,4 @@ returns c =
     let digits = c.put_number-end in
     let last = c.put_bytes in
     let args = c.args in
-    (omega (arith, pre, mark.ensures.0, mark.auto.0, lines.ensures.0, lines.auto.0, label.ensures.0, label.auto.0, digits.ensures.0, digits.auto.0, last.ensures.0, last.auto.0, integrity-size, integrity-values, checksum-label), closing-put args.mark.now args.values.now args.buffer.now args.from args.at pre.0 pre.1 pre.2 mark.new.buffer lines.new.buffer label.new.buffer mark.result lines.result label.result mark.ensures.1 mark.ensures.0 lines.ensures.1 lines.ensures.0 label.ensures.1 label.ensures.0 total.result digits.result digits.new.buffer last.new.buffer total.ensures digits.ensures.1 digits.ensures.0 last.ensures.1)
+    (omega (arith, pre, mark.ensures.0, mark.auto.buffer, lines.ensures.0, lines.auto.buffer, label.ensures.0, label.auto.buffer, digits.ensures.0, digits.auto.buffer, last.ensures.0, last.auto.buffer, integrity-size, integrity-values, checksum-label), closing-put args.mark.now args.values.now args.buffer.now args.from args.at pre.0 pre.1 pre.2 mark.new.buffer lines.new.buffer label.new.buffer mark.result lines.result label.result mark.ensures.1 mark.ensures.0 lines.ensures.1 lines.ensures.0 label.ensures.1 label.ensures.0 total.result digits.result digits.new.buffer last.new.buffer total.ensures digits.ensures.1 digits.ensures.0 last.ensures.1)

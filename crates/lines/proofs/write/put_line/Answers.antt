@@ -16,7 +16,7 @@ pub put_bytes-q-requires : goal.put_bytes-q-requires
 put_bytes-q-requires c =
     let args = c.args in
     let label = c.put_label-p in
-    omega (arith, line-size-is (line_no args.i), value-length args.values.now args.v c.value_bytes-w.result (width (line_no args.i).kind) c.value_bytes-w.ensures (omega arith), label.ensures.0, label.auto.0)
+    omega (arith, line-size-is (line_no args.i), value-length args.values.now args.v c.value_bytes-w.result (width (line_no args.i).kind) c.value_bytes-w.ensures (omega arith), label.ensures.0, label.auto.buffer)
 
 pub bounds-buffer-q : goal.bounds-buffer-q
 bounds-buffer-q c =
@@ -26,7 +26,7 @@ bounds-buffer-q c =
     let w = c.value_bytes-w in
     let x : List ℕ = take (args.v + w.result - args.v) (drop args.v args.values.now) in
     let long : length x ≡ width (line_no args.i).kind = value-length args.values.now args.v w.result (width (line_no args.i).kind) w.ensures (omega arith) in
-    omega (arith, line-end (line_no args.i) args.buffer.now label.new.buffer value.new.buffer x args.at label.result value.result (omega arith) long label.ensures.0 value.ensures.0, label.auto.0, value.auto.0)
+    omega (arith, line-end (line_no args.i) args.buffer.now label.new.buffer value.new.buffer x args.at label.result value.result (omega arith) long label.ensures.0 value.ensures.0, label.auto.buffer, value.auto.buffer)
 
 pub overflow_add-result : goal.overflow_add-result
 overflow_add-result c =
@@ -36,13 +36,13 @@ overflow_add-result c =
     let w = c.value_bytes-w in
     let x : List ℕ = take (args.v + w.result - args.v) (drop args.v args.values.now) in
     let long : length x ≡ width (line_no args.i).kind = value-length args.values.now args.v w.result (width (line_no args.i).kind) w.ensures (omega arith) in
-    omega (arith, line-end (line_no args.i) args.buffer.now label.new.buffer value.new.buffer x args.at label.result value.result (omega arith) long label.ensures.0 value.ensures.0, label.auto.0, value.auto.0)
+    omega (arith, line-end (line_no args.i) args.buffer.now label.new.buffer value.new.buffer x args.at label.result value.result (omega arith) long label.ensures.0 value.ensures.0, label.auto.buffer, value.auto.buffer)
 
 pub shape_of-buffer : goal.shape_of-buffer
 shape_of-buffer c =
     let label = c.put_label-p in
     let value = c.put_bytes-q in
-    simp length-set (omega (arith, label.auto.0, value.auto.0))
+    simp length-set (omega (arith, label.auto.buffer, value.auto.buffer))
 
 pub returns : goal.returns
 returns c =

@@ -34,7 +34,7 @@ loop-i-preserved c =
     let end : ℕ = args.first + args.n in
     let line = c.put_line-p in
     let others = size-next args.values.now loop.buffer loop.p loop.v loop.i end (omega arith) (omega arith) loop.invariant.2 (omega arith) in
-    (omega arith, omega (arith, line.auto.0), value-next args.values.now loop.v loop.i end (omega arith) (omega arith) loop.invariant.2 (loop.v + c.value_bytes-v.result) (omega (arith, c.value_bytes-v.ensures)), omega (arith, line.ensures.0), loop.invariant.4 ∙ put_next args.values.now loop.buffer loop.p loop.v loop.i end (omega arith) (omega arith) loop.invariant.2 (omega arith) line.result c.value_bytes-v.result line.new.buffer line.ensures.0 c.value_bytes-v.ensures line.ensures.1)
+    (omega arith, omega (arith, line.auto.buffer), value-next args.values.now loop.v loop.i end (omega arith) (omega arith) loop.invariant.2 (loop.v + c.value_bytes-v.result) (omega (arith, c.value_bytes-v.ensures)), omega (arith, line.ensures.0), loop.invariant.4 ∙ put_next args.values.now loop.buffer loop.p loop.v loop.i end (omega arith) (omega arith) loop.invariant.2 (omega arith) line.result c.value_bytes-v.result line.new.buffer line.ensures.0 c.value_bytes-v.ensures line.ensures.1)
 
 pub shape_of-buffer : goal.shape_of-buffer
 shape_of-buffer c = c.loop-i.invariant.1

@@ -22,7 +22,7 @@ inside c =
     omega (arith, k.requires, found c, find-fits (10 ∷ []) (drop k.args.p k.args.text.now), length-drop k.args.p k.args.text.now)
 
 pub overflow_add-result : goal.overflow_add-result
-overflow_add-result c = omega (arith, inside c, c.well-formed)
+overflow_add-result c = omega (arith, inside c, c.well_formed)
 
 pub returns : goal.returns
 returns c = (ap (λ (n : ℕ). c.args.p + n) (found c), inside c)

@@ -14,7 +14,7 @@ serial_place-requires c =
     let w = next (goal.at.serial_place-requires c).Start in record { h_value = b.header_is; number_value = b.whole; at_in_bounds = omega (arith, w.inside); l_value = w.layout_is; number_value_2 = w.whole }
 
 pub overflow_add-result : goal.overflow_add-result
-overflow_add-result c = let s = c in omega (arith, (next (goal.at.overflow_add-result c).Start).inside, s.well-formed)
+overflow_add-result c = let s = c in omega (arith, (next (goal.at.overflow_add-result c).Start).inside, s.well_formed)
 
 pub returns : goal.returns
 returns c =

@@ -23,13 +23,13 @@ returns-then-j-rows c =
     note-rows _ _ _ _ _ _ l.loop-j.invariant.3 past
 
 pub offset_bounds-rows-j : goal.offset_bounds-rows-j
-offset_bounds-rows-j c = omega (arith, c.well-formed)
+offset_bounds-rows-j c = omega (arith, c.well_formed)
 
 pub bounds-rows-j : goal.bounds-rows-j
 bounds-rows-j c = omega arith
 
 pub offset_bounds-values-j : goal.offset_bounds-values-j
-offset_bounds-values-j c = omega (arith, c.well-formed)
+offset_bounds-values-j c = omega (arith, c.well_formed)
 
 pub bounds-values-j : goal.bounds-values-j
 bounds-values-j c = omega arith

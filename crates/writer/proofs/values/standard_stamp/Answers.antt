@@ -6,4 +6,4 @@ use Rattle.writer.proofs.values.standard_stamp.Goals as goal
 pub returns : goal.returns
 returns c =
     let start = c in
-    standard-is start.args.word start.args.serial (search rules) (search rules) c.stamp.result c.is_is_word.result c.is_is_word.ensures c.stamp.ensures
+    standard-is start.args.word start.args.serial (search rules) (search rules) c.stamp.result c.is_word.result c.is_word.ensures c.stamp.ensures
