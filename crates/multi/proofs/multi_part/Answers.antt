@@ -64,7 +64,7 @@ minis_part-requires c =
     let types = c.types_part-part in
     let part = rw count at types.ensures.value in
     let passed = c.if-part-ne0.false in
-    let kept = types.auto.1.1.0 in record { start_in_bounds = (place_inside a.r.now head _ part passed, omega (arith, count)); text_ids = texts-kept a.r.now head _ part passed _ _ count (types.ensures.ids_after passed) }
+    let kept = types.auto.ids in record { start_in_bounds = (place_inside a.r.now head _ part passed, omega (arith, count)); text_ids = texts-kept a.r.now head _ part passed _ _ count (types.ensures.ids_after passed) }
 
 pub returns : goal.returns
 returns c =

@@ -61,8 +61,8 @@ loop-buffer-preserved c =
     let l = c.loop-buffer in
     let here = sym c.is_mini.ensures ∙
     c.loop-buffer-test.true in
-    let put = c.Put-under.ensures in
-    rw (c.mini_bytes-at.ensures, put.0, put.1)
+    let put = c.put_under-done.ensures in
+    rw (c.mini_bytes-at.ensures, put.value, put.buffer_after)
     (whole-next l.invariant.0 here, put-goes l.invariant.1 l.invariant.0 here l.invariant.2, l.invariant.2)
 
 pub shape_of-buffer : goal.shape_of-buffer

@@ -30,7 +30,7 @@ returns-then-same_bytes c =
     let long = under-long a.id.now a.at a.r.now
     c.same_bytes.ensures
     c.if-same_bytes.true c.length_at-n.ensures
-    c.requires.r_in_bounds in record { value = omega (arith, put.0); buffer_after = put.1 ∙ ap (λ v. placed a.done v a.buffer.now) part }
+    c.requires.r_in_bounds in record { value = omega (arith, put.value); buffer_after = put.buffer_after ∙ ap (λ v. placed a.done v a.buffer.now) part }
 
 pub returns : goal.returns
 returns c =
