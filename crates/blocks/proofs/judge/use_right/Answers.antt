@@ -2,7 +2,6 @@
 use Rattle.laws.proofs.First.{is_zero-eqb}
 use Rattle.blocks.proofs.Places.{non_zero-ltb}
 use Rattle.blocks.specs.Blocks.{use_right}
-pub use-right-spec : {M : Type 1} → statement M
 use Rattle.blocks.proofs.judge.use_right.Goals as goal
 
 pub returns : goal.returns

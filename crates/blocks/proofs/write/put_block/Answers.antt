@@ -14,7 +14,7 @@ put_big-b-requires c =
     let a = c in
     let k = a in
     let p = a.put_big-a.ensures in
-    omega (arith, (k.requires.v_len_bound, k.requires.at_in_bounds), put-length p, p.end_is, big-long 4 k.args.i)
+    omega (arith, k.requires.v_len_bound, k.requires.at_in_bounds, put-length p, p.end_is, big-long 4 k.args.i)
 
 two : (c : After-put_big-b) → Put (big_endian 4 c.args.i ++ big_endian 2 (length c.args.v.now)) c.args.at c.args.buffer.now c.put_big-b.result c.put_big-b.new.buffer
 two c = put-behind c.put_big-a.ensures c.put_big-b.ensures
@@ -27,7 +27,7 @@ two-end c =
 pub put_bytes-c-requires : goal.put_bytes-c-requires
 put_bytes-c-requires c =
     let b = c in
-    omega (arith, (b.requires.v_len_bound, b.requires.at_in_bounds), put-length (two (goal.at.put_bytes-c-requires c).After-put_big-b), two-end (goal.at.put_bytes-c-requires c).After-put_big-b)
+    omega (arith, b.requires.v_len_bound, b.requires.at_in_bounds, put-length (two (goal.at.put_bytes-c-requires c).After-put_big-b), two-end (goal.at.put_bytes-c-requires c).After-put_big-b)
 
 data-put : (c : After-put_bytes-c) → Put c.args.v.now c.put_big-b.result c.put_big-b.new.buffer c.put_bytes-c.result c.put_bytes-c.new.buffer
 data-put c =
@@ -37,7 +37,7 @@ data-put c =
     let b = c in
     record {
       end_is = c.put_bytes-c.ensures.0;
-      fits = omega (arith, c.put_bytes-c.ensures.0, (b.requires.v_len_bound, b.requires.at_in_bounds), put-length two, two-end);
+      fits = omega (arith, c.put_bytes-c.ensures.0, b.requires.v_len_bound, b.requires.at_in_bounds, put-length two, two-end);
       bytes-are = c.put_bytes-c.ensures.1;
     }
 
@@ -45,7 +45,7 @@ pub put_zeros-d-requires : goal.put_zeros-d-requires
 put_zeros-d-requires c =
     let d = c in
     let b = d in
-    omega (arith, (b.requires.v_len_bound, b.requires.at_in_bounds), put-length (two (goal.at.put_zeros-d-requires c).After-put_big-b), two-end (goal.at.put_zeros-d-requires c).After-put_big-b, put-length (data-put (goal.at.put_zeros-d-requires c).After-put_bytes-c), (data-put (goal.at.put_zeros-d-requires c).After-put_bytes-c).end_is)
+    omega (arith, b.requires.v_len_bound, b.requires.at_in_bounds, put-length (two (goal.at.put_zeros-d-requires c).After-put_big-b), two-end (goal.at.put_zeros-d-requires c).After-put_big-b, put-length (data-put (goal.at.put_zeros-d-requires c).After-put_bytes-c), (data-put (goal.at.put_zeros-d-requires c).After-put_bytes-c).end_is)
 
 four : (c : After-put_zeros-d) → Put (before_sum c.args.i c.args.v.now) c.args.at c.args.buffer.now c.put_zeros-d.result c.put_zeros-d.new.buffer
 unfolding before_sum
@@ -56,7 +56,7 @@ four c =
     let b = c in
     record {
       end_is = c.put_bytes-c.ensures.0;
-      fits = omega (arith, c.put_bytes-c.ensures.0, (b.requires.v_len_bound, b.requires.at_in_bounds), put-length two, two-end);
+      fits = omega (arith, c.put_bytes-c.ensures.0, b.requires.v_len_bound, b.requires.at_in_bounds, put-length two, two-end);
       bytes-are = c.put_bytes-c.ensures.1;
     } in
     let d = c in
@@ -68,7 +68,7 @@ put_big-requires c =
     let z = c in
     let d = z in
     let b = d in
-    omega (arith, (b.requires.v_len_bound, b.requires.at_in_bounds), two-end (goal.at.put_big-requires c).After-put_big-b, (data-put (goal.at.put_big-requires c).After-put_bytes-c).end_is, z.put_zeros-d.ensures.end_is, length-replicate {A = ℕ} (504 - length b.args.v.now) 0, put-length (four (goal.at.put_big-requires c).After-put_zeros-d))
+    omega (arith, b.requires.v_len_bound, b.requires.at_in_bounds, two-end (goal.at.put_big-requires c).After-put_big-b, (data-put (goal.at.put_big-requires c).After-put_bytes-c).end_is, z.put_zeros-d.ensures.end_is, length-replicate {A = ℕ} (504 - length b.args.v.now) 0, put-length (four (goal.at.put_big-requires c).After-put_zeros-d))
 
 pub returns : goal.returns
 unfolding block

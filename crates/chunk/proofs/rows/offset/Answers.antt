@@ -3,6 +3,7 @@ use mathlib.Core.Path.{◌∙◌}
 use native.Mathlib.Omega.{arith}
 use lib.ListN.{length-take, length-drop}
 use mir.Facts.{to_z-of_z}
+use mir.Syntax.{w64}
 use Rattle.metafile.specs.Chunk.{offset_bytes}
 use Rattle.chunk.proofs.Headers.{head-long, offset-formed}
 use Rattle.chunk.proofs.Layouts.{offset-synch, offset-standard, offset-given}
@@ -30,5 +31,5 @@ offset_value-requires c =
 
 pub returns : goal.returns
 returns c =
-    to_z-of_z (record { sfits = c.offset_value.type_inv })
+    to_z-of_z {w = w64} (record { sfits = c.offset_value.type_inv })
     ∙ offset-given c.args.s.now _ c.is_word.ensures c.if-is_word.false _ c.is_word-2.ensures c.if-is_word-2.false _ c.offset_value.ensures

@@ -2,6 +2,7 @@
 use mathlib.Core.Path.{◌∙◌}
 use native.Mathlib.Omega.{arith}
 use mir.Facts.{to_z-of_z}
+use mir.Syntax.{w64}
 use Rattle.chunk.proofs.Layouts.{Placed, placed, row_is}
 use Rattle.chunk.proofs.rows.row.Goals as goal
 use Rattle.chunk.proofs.rows.row.Goals.{Start}
@@ -30,4 +31,4 @@ returns c =
     let a = c.args in
     let k = known (goal.at.returns c).Start in
     row_is a.mark.now a.s.now a.p a.l k _ _ _ _ c.chunk_serial.ensures
-    (to_z-of_z (record { sfits = c.offset.type_inv }) ∙ c.offset.ensures) (rw k.closing-is at c.sum_good.ensures) c.ending.ensures
+    (to_z-of_z {w = w64} (record { sfits = c.offset.type_inv }) ∙ c.offset.ensures) (rw k.closing-is at c.sum_good.ensures) c.ending.ensures
