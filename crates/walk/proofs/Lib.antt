@@ -16,6 +16,6 @@ pub mod Index
 pub mod Loops
 pub mod Ahead
 pub mod Cursors
-pub mod Places
+pub mod PlaceLaws
 pub mod Named
 pub mod Notes

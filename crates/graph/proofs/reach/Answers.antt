@@ -11,4 +11,4 @@ pub returns : goal.returns
 returns c =
     let p = c.requires in
     let answer = c.standing-fine.ensures in
-    answered p.n_bound p.row_lt_n _ answer.0 answer.1
+    answered p.n_bound p.row_lt_n _ answer.done answer.circle

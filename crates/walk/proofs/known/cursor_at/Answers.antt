@@ -1,6 +1,6 @@
 -- `walk::known::cursor_at` meets its contract. Assumes nothing.
 use Rattle.walk.proofs.Cursors.{known-cursor}
-use Rattle.walk.proofs.Places.{chunk-asked}
+use Rattle.walk.proofs.PlaceLaws.{chunk-asked}
 use Rattle.walk.proofs.known.cursor_at.Goals as goal
 
 pub known_chunk-layout-requires : goal.known_chunk-layout-requires

@@ -3,7 +3,7 @@ use Prim.Native.Nat.{◌-◌}
 use mathlib.Core.Path.{sym, ◌∙◌}
 use Rattle.walk.proofs.Index.{index-long}
 use Rattle.walk.proofs.Cursors.{there}
-use Rattle.walk.proofs.Places.{ended}
+use Rattle.walk.proofs.PlaceLaws.{ended}
 use native.Mathlib.Omega.{arith}
 use Rattle.walk.proofs.known.last.Goals as goal
 

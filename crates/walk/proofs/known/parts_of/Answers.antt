@@ -1,7 +1,7 @@
 -- `walk::known::parts_of` meets its contract. Assumes nothing.
 use native.Mathlib.Omega.{arith}
 use Rattle.walk.proofs.Loops.{Turn}
-use Rattle.walk.proofs.Places.{turned, row-places}
+use Rattle.walk.proofs.PlaceLaws.{turned, row-places}
 use Rattle.walk.proofs.known.parts_of.Goals as goal
 use Rattle.walk.proofs.known.parts_of.Goals.{Start}
 

@@ -1,5 +1,5 @@
 -- `walk::known::row_at` meets its contract. Assumes nothing.
-use Rattle.walk.proofs.Places.{chunk-asked}
+use Rattle.walk.proofs.PlaceLaws.{chunk-asked}
 use Rattle.walk.proofs.known.row_at.Goals as goal
 
 pub known_chunk-requires : goal.known_chunk-requires

@@ -26,7 +26,7 @@ returns-then-late c =
 pub row_between-requires : goal.row_between-requires
 row_between-requires c =
     let k = c in
-    let w = begun (goal.at.row_between-requires c).Start in record { h_value = k.requires.h_value; number_value = k.requires.number_value; i_le_k = omega arith; k_in_bounds = omega (arith, k.requires.1.1); place_value = w.end_is ∙ sym (place_none k.args.file.now w.whole) }
+    let w = begun (goal.at.row_between-requires c).Start in record { h_value = k.requires.h_value; number_value = k.requires.number_value; i_le_k = omega arith; k_in_bounds = omega (arith, k.requires.m_le_i); place_value = w.end_is ∙ sym (place_none k.args.file.now w.whole) }
 
 pub returns : goal.returns
 returns c =
@@ -36,5 +36,5 @@ returns c =
     let file = k.args.file.now in
     let is = c.row_between.ensures in (
       early-there k.args.serial file k.args.m k.args.i k.requires.m_le_i _ r.row_between-late.ensures e.if-late.false _ is,
-      between-there k.args.serial file 0 k.args.m _ is (begun (goal.at.returns c).Start).whole (omega (arith, k.requires.1.1)),
+      between-there k.args.serial file 0 k.args.m _ is (begun (goal.at.returns c).Start).whole (omega (arith, k.requires.m_le_i)),
     )
