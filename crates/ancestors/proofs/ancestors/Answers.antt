@@ -17,13 +17,13 @@ returns-then-file-gt-LIMIT c = refused-11 _ _ _ c.if-file-gt-LIMIT.true
 pub returns-then-n-row : goal.returns-then-n-row
 returns-then-n-row c =
     let n = c in
-    refused-13 _ _ _ n.if-file-gt-LIMIT.left _ n.note_rows-n.ensures.0 c.if-n-row.true
+    refused-13 _ _ _ n.if-file-gt-LIMIT.false _ n.note_rows-n.ensures.0 c.if-n-row.true
 
 pub returns-then-n-gt-ROWS : goal.returns-then-n-gt-ROWS
 returns-then-n-gt-ROWS c =
     let e = c in
     let n = e in
-    refused-24 _ _ _ n.if-file-gt-LIMIT.left _ n.note_rows-n.ensures.0 e.if-n-row.false c.if-n-gt-ROWS.true
+    refused-24 _ _ _ n.if-file-gt-LIMIT.false _ n.note_rows-n.ensures.0 e.if-n-row.false c.if-n-gt-ROWS.true
 
 pub put_steps-requires : goal.put_steps-requires
 put_steps-requires c =
@@ -34,7 +34,7 @@ put_steps-requires c =
 pub reach-reached-requires : goal.reach-reached-requires
 reach-reached-requires c =
     let s = c in
-    let e = s in record { table_len = s.put_steps.ensures.0.long; n_bound = e.if-n-gt-ROWS.left; row_lt_n = e.if-n-row.left }
+    let e = s in record { table_len = s.put_steps.ensures.0.long; n_bound = e.if-n-gt-ROWS.false; row_lt_n = e.if-n-row.false }
 
 pub returns-then-not-reached : goal.returns-then-not-reached
 returns-then-not-reached c =
@@ -42,7 +42,7 @@ returns-then-not-reached c =
     let s = r in
     let e = s in
     let n = e in
-    refused-23 _ _ _ n.if-file-gt-LIMIT.left _ n.note_rows-n.ensures.0 e.if-n-row.left e.if-n-gt-ROWS.left _ s.put_steps.ensures.0
+    refused-23 _ _ _ n.if-file-gt-LIMIT.false _ n.note_rows-n.ensures.0 e.if-n-row.false e.if-n-gt-ROWS.false _ s.put_steps.ensures.0
     _ _ r.reach-reached.ensures (not-true _ (ap not c.if-not-reached.true))
 
 -- the marks are as many as rows can be
@@ -64,7 +64,7 @@ returns-then-list-count c =
     let s = r in
     let e = s in
     let n = e in
-    refused-18 _ _ _ n.if-file-gt-LIMIT.left _ n.note_rows-n.ensures.0 e.if-n-row.left e.if-n-gt-ROWS.left _ s.put_steps.ensures.0
+    refused-18 _ _ _ n.if-file-gt-LIMIT.false _ n.note_rows-n.ensures.0 e.if-n-row.false e.if-n-gt-ROWS.false _ s.put_steps.ensures.0
     _ _ r.reach-reached.ensures (not-false _ (ap not f.if-not-reached.false)) _ k.count-count.ensures c.if-list-count.true
 
 pub put_rows-requires : goal.put_rows-requires
@@ -78,7 +78,7 @@ missing-requires c =
     let f = o in
     let s = f in
     let e = s in
-    let n = e in record { n_in_bounds = marks-room (goal.at.missing-requires c).Else-not-reached; small = small-counts n.note_rows-n.ensures.1 e.if-n-gt-ROWS.left n.if-file-gt-LIMIT.left s.put_steps.ensures.1 }
+    let n = e in record { n_in_bounds = marks-room (goal.at.missing-requires c).Else-not-reached; small = small-counts n.note_rows-n.ensures.1 e.if-n-gt-ROWS.false n.if-file-gt-LIMIT.false s.put_steps.ensures.1 }
 
 pub returns : goal.returns
 returns c =
@@ -90,6 +90,6 @@ returns c =
     let s = r in
     let e = s in
     let n = e in
-    answered _ _ _ n.if-file-gt-LIMIT.left _ n.note_rows-n.ensures.0 e.if-n-row.left e.if-n-gt-ROWS.left _ s.put_steps.ensures.0
+    answered _ _ _ n.if-file-gt-LIMIT.false _ n.note_rows-n.ensures.0 e.if-n-row.false e.if-n-gt-ROWS.false _ s.put_steps.ensures.0
     _ _ r.reach-reached.ensures (not-false _ (ap not f.if-not-reached.false)) _ k.count-count.ensures _ s.put_steps.ensures.1 o.if-list-count.false
     _ p.put_rows.ensures _ c.missing.ensures

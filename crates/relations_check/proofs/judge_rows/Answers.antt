@@ -12,7 +12,7 @@ loop-k-init c =
     (omega arith, k.requires.ended.begun, k.requires.d_len, refl, k.requires.judging, refl)
 
 pub clear-requires : goal.clear-requires
-clear-requires c = c.loop-k.inv.2
+clear-requires c = c.loop-k.invariant.2
 
 pub fill-w-requires : goal.fill-w-requires
 fill-w-requires c =
@@ -43,9 +43,9 @@ loop-k-preserved c =
       omega (arith, w.window.rows, k.requires.ended.count),
       (λ some. w.behind),
       w.window.holds.long,
-      judging-length _ _ _ _ _ _ l.loop-k.inv.4 e ∙ l.loop-k.inv.3,
+      judging-length _ _ _ _ _ _ l.loop-k.invariant.4 e ∙ l.loop-k.invariant.3,
       judging-next _ _ _ _ _ e,
-      judging-tail _ _ _ _ e ∙ l.loop-k.inv.5,
+      judging-tail _ _ _ _ e ∙ l.loop-k.invariant.5,
     )
 
 pub shape_of-d : goal.shape_of-d

@@ -33,7 +33,7 @@ next-c-requires c = record { at = c.loop-c.invariant.0; go_value = c.loop-c-test
 pub loop-c-smaller : goal.loop-c-smaller
 loop-c-smaller c =
     let t = c in
-    omega (arith, (there t.loop-c.inv.0 t.loop-c-test.taken).turn.row, c.next-c.ensures.1)
+    omega (arith, (there t.loop-c.invariant.0 t.loop-c-test.true).turn.row, c.next-c.ensures.1)
 
 pub loop-c-preserved : goal.loop-c-preserved
 loop-c-preserved c =

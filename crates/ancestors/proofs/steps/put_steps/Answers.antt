@@ -38,10 +38,10 @@ put_row-requires c =
     let w = l.loop-row.invariant in record { serials = l.requires.serials; row_lt_n = t.loop-row-test.true; chunk_at = w.left l.loop-row.row (omega arith) t.loop-row-test.true; tabled = w.table }
 
 pub offset_bounds-counts-row-in-loop-row : goal.offset_bounds-counts-row-in-loop-row
-offset_bounds-counts-row-in-loop-row c = let t = c in omega (arith, below (goal.at.offset_bounds-counts-row-in-loop-row c).At-loop-row t.loop-row-test.taken)
+offset_bounds-counts-row-in-loop-row c = let t = c in omega (arith, below (goal.at.offset_bounds-counts-row-in-loop-row c).At-loop-row t.loop-row-test.true)
 
 pub bounds-counts-row-in-loop-row : goal.bounds-counts-row-in-loop-row
-bounds-counts-row-in-loop-row c = let t = c in omega (arith, below (goal.at.bounds-counts-row-in-loop-row c).At-loop-row t.loop-row-test.taken, t.loop-row.inv.long)
+bounds-counts-row-in-loop-row c = let t = c in omega (arith, below (goal.at.bounds-counts-row-in-loop-row c).At-loop-row t.loop-row-test.true, t.loop-row.invariant.long)
 
 pub overflow_add-row : goal.overflow_add-row
 overflow_add-row c = omega arith
@@ -54,7 +54,7 @@ loop-row-preserved c =
     let t = c in
     let l = t in
     let r = c.put_row.ensures in
-    stepping-more l.loop-row.inv l.requires.serials.few t.loop-row-test.taken _ r.0 r.1
+    stepping-more l.loop-row.invariant l.requires.serials.few t.loop-row-test.true _ r.0 r.1
 
 pub shape_of-counts : goal.shape_of-counts
 shape_of-counts c = c.loop-row.invariant.long ∙ sym c.requires.noted.counts-long

@@ -59,7 +59,7 @@ same-is c =
 pub returns-then-same_bytes : goal.returns-then-same_bytes
 returns-then-same_bytes c =
     let t = c in
-    with-found t.requires.serials _ _ t.loop-i-test.taken _ (same-is (goal.at.returns-then-same_bytes c).After-same_bytes) c.if-same_bytes.true
+    with-found t.requires.serials _ _ t.loop-i-test.true _ (same-is (goal.at.returns-then-same_bytes c).After-same_bytes) c.if-same_bytes.true
 
 pub overflow_add-i : goal.overflow_add-i
 overflow_add-i c = omega arith
@@ -70,7 +70,7 @@ loop-i-smaller c = omega arith
 pub loop-i-preserved : goal.loop-i-preserved
 loop-i-preserved c =
     let t = c in
-    with-passed t.requires.serials _ _ t.loop-i-test.taken _ (same-is (goal.at.loop-i-preserved c).After-same_bytes) t.loop-i.inv c.if-same_bytes.false
+    with-passed t.requires.serials _ _ t.loop-i-test.true _ (same-is (goal.at.loop-i-preserved c).After-same_bytes) t.loop-i.invariant c.if-same_bytes.false
 
 pub returns : goal.returns
 returns c = let l = c in with-end l.requires.serials _ _ l.loop-i.invariant c.loop-i-test.false

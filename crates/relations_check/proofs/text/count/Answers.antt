@@ -35,13 +35,13 @@ pub slice_bounds-is_named-end : goal.slice_bounds-is_named-end
 slice_bounds-is_named-end c = c.line_end-end.ensures.1
 
 pub overflow_add-n : goal.overflow_add-n
-overflow_add-n c = let l = c in omega (arith, l.loop-p.inv.0, c.loop-p-test.true, l.good)
+overflow_add-n c = let l = c in omega (arith, l.loop-p.invariant.0, c.loop-p-test.true, l.good)
 
 pub overflow_add-p : goal.overflow_add-p
 overflow_add-p c = let e = c in omega (arith, e.line_end-end.ensures.1, e.good)
 
 pub loop-p-smaller : goal.loop-p-smaller
-loop-p-smaller c = let e = c in omega (arith, further (goal.at.loop-p-smaller c).After-line_end-end, e.line_end-end.ensures.1, e.loop-p-test.taken)
+loop-p-smaller c = let e = c in omega (arith, further (goal.at.loop-p-smaller c).After-line_end-end, e.line_end-end.ensures.1, e.loop-p-test.true)
 
 counted : (c : Joined-is_named) → (c.if-is_named.n ≤ c.loop-p.n + 1)
     × (c.if-is_named.n + length (verdicts_by never (rest_of c.args.text.now (c.line_end-end.result + 1))) ≡ length (verdicts_by never (split_on 10 c.args.text.now)))
@@ -49,7 +49,7 @@ counted c =
     let next : rest_of c.args.text.now c.loop-p.p ≡ take (c.line_end-end.result - c.loop-p.p) (drop c.loop-p.p c.args.text.now) ∷ rest_of c.args.text.now (c.line_end-end.result + 1) = rest-step _ _ _ c.loop-p-test.true c.line_end-end.ensures.0 in
     let e = c in
     let l = e in
-    let all = rw next at l.loop-p.inv.2 in
+    let all = rw next at l.loop-p.invariant.2 in
     ⊎_elim
     (λ w. (omega (arith, w.1), omega (arith, w.1, rw (verdicts-line never _ _ (sym c.is_named.ensures ∙ w.0.taken)) at all)))
     (λ w. (omega (arith, w.1), omega (arith, w.1, rw (verdicts-comment never _ _ (sym c.is_named.ensures ∙ w.0.left)) at all)))
@@ -58,7 +58,7 @@ counted c =
 pub loop-p-preserved : goal.loop-p-preserved
 loop-p-preserved c =
     let e = c in
-    (omega (arith, (counted c).0, e.loop-p.inv.0, further (goal.at.loop-p-preserved c).After-line_end-end), omega (arith, e.line_end-end.ensures.1), (counted c).1)
+    (omega (arith, (counted c).0, e.loop-p.invariant.0, further (goal.at.loop-p-preserved c).After-line_end-end), omega (arith, e.line_end-end.ensures.1), (counted c).1)
 
 pub returns : goal.returns
 returns c =

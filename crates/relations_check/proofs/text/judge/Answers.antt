@@ -75,7 +75,7 @@ pub slice_bounds-verdict-end : goal.slice_bounds-verdict-end
 slice_bounds-verdict-end c = c.line_end-end.ensures.1
 
 small : (c : Then-is_named) → c.loop-p.i < length c.args.verdicts.now
-small c = omega (arith, room c, c.loop-p.inv.2)
+small c = omega (arith, room c, c.loop-p.invariant.2)
 
 pub offset_bounds-verdicts-i : goal.offset_bounds-verdicts-i
 offset_bounds-verdicts-i c = let t = c in omega (arith, small (goal.at.offset_bounds-verdicts-i c).Then-is_named, t.good)
@@ -101,7 +101,7 @@ pub overflow_add-p : goal.overflow_add-p
 overflow_add-p c = let e = c in omega (arith, e.line_end-end.ensures.1, e.good)
 
 pub loop-p-smaller : goal.loop-p-smaller
-loop-p-smaller c = let e = c in omega (arith, further (goal.at.loop-p-smaller c).After-line_end-end, e.line_end-end.ensures.1, e.loop-p-test.taken)
+loop-p-smaller c = let e = c in omega (arith, further (goal.at.loop-p-smaller c).After-line_end-end, e.line_end-end.ensures.1, e.loop-p-test.true)
 
 -- the list behind the line
 passed : (c : Joined-is_named)
@@ -114,7 +114,7 @@ passed c =
     let behind : drop c.loop-p.i c.loop-p.verdicts ≡ verdicts_by (old c) ((take (c.line_end-end.result - c.loop-p.p) (drop c.loop-p.p (c.args.text.now))) ∷ (rest_of (c.args.text.now) (c.line_end-end.result + 1))) ++ tail (c.args.text.now) c.args.verdicts.now = rw next at c.loop-p.invariant.4 in
     let e = c in
     let l = e in
-    let inv = l.loop-p.inv in
+    let inv = l.loop-p.invariant in
     ⊎_elim
     (λ w.
     let name : has_name (take (e.line_end-end.result - e.loop-p.p) (drop e.loop-p.p (e.args.text.now))) ≡ true = sym c.is_named.ensures ∙ w.0.taken in
@@ -143,7 +143,7 @@ pub loop-p-preserved : goal.loop-p-preserved
 loop-p-preserved c =
     let e = c in
     let p = passed c in
-    (omega (arith, p.0, e.loop-p.inv.0, further (goal.at.loop-p-preserved c).After-line_end-end), omega (arith, e.line_end-end.ensures.1), p.1, p.2, p.3)
+    (omega (arith, p.0, e.loop-p.invariant.0, further (goal.at.loop-p-preserved c).After-line_end-end), omega (arith, e.line_end-end.ensures.1), p.1, p.2, p.3)
 
 pub shape_of-verdicts : goal.shape_of-verdicts
 shape_of-verdicts c = c.loop-p.invariant.2

@@ -47,22 +47,22 @@ has_room c z =
     let next : rest_of (c.args.text.now) c.loop-p.p ≡ (take (c.line_end-end.result - c.loop-p.p) (drop c.loop-p.p (c.args.text.now))) ∷ rest_of (c.args.text.now) (c.line_end-end.result + 1) = rest-step _ _ _ c.loop-p-test.true c.line_end-end.ensures.0 in
     let listing : Listing never (split_on 10 (c.args.text.now)) ((take (c.line_end-end.result - c.loop-p.p) (drop c.loop-p.p (c.args.text.now))) ∷ rest_of (c.args.text.now) (c.line_end-end.result + 1)) c.loop-p.i c.loop-p.verdicts = rw next at c.loop-p.invariant.3 in
     let l = c in
-    omega (arith, listing-room (named c z) listing, l.loop-p.inv.2, l.requires)
+    omega (arith, listing-room (named c z) listing, l.loop-p.invariant.2, l.requires)
 
 pub offset_bounds-verdicts-i : goal.offset_bounds-verdicts-i
-offset_bounds-verdicts-i c = let f = c in let l = f in omega (arith, has_room (goal.at.offset_bounds-verdicts-i c).After-form-form c.if-form-ne0.true, l.loop-p.inv.2, l.good)
+offset_bounds-verdicts-i c = let f = c in let l = f in omega (arith, has_room (goal.at.offset_bounds-verdicts-i c).After-form-form c.if-form-ne0.true, l.loop-p.invariant.2, l.good)
 
 pub bounds-verdicts-i : goal.bounds-verdicts-i
 bounds-verdicts-i c = has_room (goal.at.bounds-verdicts-i c).After-form-form c.if-form-ne0.true
 
 pub overflow_add-i : goal.overflow_add-i
-overflow_add-i c = let f = c in let l = f in omega (arith, has_room (goal.at.overflow_add-i c).After-form-form c.if-form-ne0.true, l.loop-p.inv.2, l.good)
+overflow_add-i c = let f = c in let l = f in omega (arith, has_room (goal.at.overflow_add-i c).After-form-form c.if-form-ne0.true, l.loop-p.invariant.2, l.good)
 
 pub overflow_add-p : goal.overflow_add-p
 overflow_add-p c = let e = c in omega (arith, e.line_end-end.ensures.1, e.good)
 
 pub loop-p-smaller : goal.loop-p-smaller
-loop-p-smaller c = let e = c in omega (arith, further (goal.at.loop-p-smaller c).After-line_end-end, e.line_end-end.ensures.1, e.loop-p-test.taken)
+loop-p-smaller c = let e = c in omega (arith, further (goal.at.loop-p-smaller c).After-line_end-end, e.line_end-end.ensures.1, e.loop-p-test.true)
 
 -- the list behind the line
 passed : (c : Joined-form-ne0)
@@ -76,11 +76,11 @@ passed c =
     let has_room : (c.form-form.result ≡ 0 → ⊥) → c.loop-p.i < length c.loop-p.verdicts = λ z. let next : rest_of (c.args.text.now) c.loop-p.p ≡ (take (c.line_end-end.result - c.loop-p.p) (drop c.loop-p.p (c.args.text.now))) ∷ rest_of (c.args.text.now) (c.line_end-end.result + 1) = rest-step _ _ _ c.loop-p-test.true c.line_end-end.ensures.0 in
     let listing : Listing never (split_on 10 (c.args.text.now)) ((take (c.line_end-end.result - c.loop-p.p) (drop c.loop-p.p (c.args.text.now))) ∷ rest_of (c.args.text.now) (c.line_end-end.result + 1)) c.loop-p.i c.loop-p.verdicts = rw next at c.loop-p.invariant.3 in
     let l = c in
-    omega (arith, listing-room (named z) listing, l.loop-p.inv.2, l.requires) in
+    omega (arith, listing-room (named z) listing, l.loop-p.invariant.2, l.requires) in
     let f = c in
     let e = f in
     let l = e in
-    let inv = l.loop-p.inv in
+    let inv = l.loop-p.invariant in
     ⊎_elim
     (λ w.
     let v = f.form-form.result in
@@ -104,7 +104,7 @@ pub loop-p-preserved : goal.loop-p-preserved
 loop-p-preserved c =
     let e = c in
     let p = passed c in
-    (omega (arith, p.0, e.loop-p.inv.0, further (goal.at.loop-p-preserved c).After-line_end-end), omega (arith, e.line_end-end.ensures.1), p.1, p.2, p.3)
+    (omega (arith, p.0, e.loop-p.invariant.0, further (goal.at.loop-p-preserved c).After-line_end-end), omega (arith, e.line_end-end.ensures.1), p.1, p.2, p.3)
 
 pub shape_of-verdicts : goal.shape_of-verdicts
 shape_of-verdicts c = c.loop-p.invariant.2

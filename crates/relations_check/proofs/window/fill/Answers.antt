@@ -31,7 +31,7 @@ pub add-more-requires : goal.add-more-requires
 add-more-requires c =
     let r = c in
     let l = r in
-    let s = r.row_at-row.ensures in record { directory = l.loop-n.inv.1.holds; key_in_bounds = s.serial-inside; start_in_bounds = omega (arith, s.dependencies-inside, s.end-inside); file_len_bound = l.requires.file_len_bound }
+    let s = r.row_at-row.ensures in record { directory = l.loop-n.invariant.1.holds; key_in_bounds = s.serial-inside; start_in_bounds = omega (arith, s.dependencies-inside, s.end-inside); file_len_bound = l.requires.file_len_bound }
 
 pub shape_of-d-then-more-n : goal.shape_of-d-then-more-n
 shape_of-d-then-more-n c =
@@ -45,16 +45,16 @@ returns-then-more-n c =
     let a = k.add-more.ensures in
     record {
       from_is = refl;
-      some = first_taken a l.loop-n.inv.2 c.if-more-n.true;
-      window = window-kept l.loop-n.inv.1 a c.if-more-n.true;
-      behind = l.loop-n.inv.0;
+      some = first_taken a l.loop-n.invariant.2 c.if-more-n.true;
+      window = window-kept l.loop-n.invariant.1 a c.if-more-n.true;
+      behind = l.loop-n.invariant.0;
     }
 
 more : (c : Else-more-n) → c.add-more.result ≡ c.loop-n.n + 1
 more c = let a = c.add-more.ensures in omega (arith, a.more.0, a.more.1, c.if-more-n.false)
 
 pub loop-n-smaller : goal.loop-n-smaller
-loop-n-smaller c = omega (arith, more c, c.loop-n-test.taken)
+loop-n-smaller c = omega (arith, more c, c.loop-n-test.true)
 
 pub loop-n-preserved : goal.loop-n-preserved
 loop-n-preserved c =
@@ -66,7 +66,7 @@ loop-n-preserved c =
     let n = l.loop-n.n in
     let e = more c in
     let next : from + n + 1 ≡ from + (n + 1) = omega arith in
-    let w = window_more l.loop-n.inv.1 k.add-more.ensures _ _ s refl (in_rows (goal.at.loop-n-preserved c).In-loop-n) e in
+    let w = window_more l.loop-n.invariant.1 k.add-more.ensures _ _ s refl (in_rows (goal.at.loop-n-preserved c).In-loop-n) e in
     (rw (e, ← next) s.next, rw e w, λ z. absurd (omega (arith, e, z)))
 
 pub shape_of-d : goal.shape_of-d

@@ -35,7 +35,7 @@ loop-k-preserved c =
     let r = s in
     let x = r.args.serial.now in
     let other = row-passed _ _ _ _ _ r.row_at-row.ensures x (in_rows (goal.at.loop-k-preserved c).In-loop-k) _ s.same_bytes.ensures c.if-same_bytes.false in
-    (r.row_at-row.ensures.next, λ l. omega (arith, r.loop-k.inv.1 l, other))
+    (r.row_at-row.ensures.next, λ l. omega (arith, r.loop-k.invariant.1 l, other))
 
 pub returns : goal.returns
 returns c =

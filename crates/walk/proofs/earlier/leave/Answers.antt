@@ -38,7 +38,7 @@ returns-then-i-ahead c =
     let k = r in
     let e = r.rows_ahead-ahead.ensures in (
       sym (row-is-new k.args.file.now (begun (goal.at.returns-then-i-ahead c).Start).whole k.args.i k.args.at k.args.place (omega (arith, e.0.there, c.if-i-ahead.true)) k.requires.at_value k.requires.place_value),
-      indexed-left k.args.file.now r.rows_ahead-ahead.result.rows r.rows_ahead-ahead.result.last (k.args.i + 1) r.rows_ahead-ahead.last.1.1.1.1.1.0 e.3 e.0,
+      indexed-left k.args.file.now r.rows_ahead-ahead.result.rows r.rows_ahead-ahead.result.last (k.args.i + 1) r.rows_ahead-ahead.new.words e.3 e.0,
     )
 
 pub returns : goal.returns
@@ -47,4 +47,4 @@ returns c =
     let r = f in
     let k = r in
     let e = r.rows_ahead-ahead.ensures in
-    (rw (f.serial_from.ensures, serial-given k.args.file.now k.args.place) at c.rescanned.ensures, indexed-left k.args.file.now r.rows_ahead-ahead.result.rows r.rows_ahead-ahead.result.last (k.args.i + 1) r.rows_ahead-ahead.last.1.1.1.1.1.0 e.3 e.0)
+    (rw (f.serial_from.ensures, serial-given k.args.file.now k.args.place) at c.rescanned.ensures, indexed-left k.args.file.now r.rows_ahead-ahead.result.rows r.rows_ahead-ahead.result.last (k.args.i + 1) r.rows_ahead-ahead.new.words e.3 e.0)

@@ -45,4 +45,4 @@ overflow_add-result-3 c = omega (arith, inside (goal.at.overflow_add-result-3 c)
 pub returns : goal.returns
 unfolding mark_length
 returns c =
-    header-unfaulted c.args.file.now (sym c.header_fault-number.ensures ∙ c.if-number-ne0.false) _ c.count_value-mark.ensures _ _ c.is_word.ensures c.sum_good-good.ensures
+    header-unfaulted c.args.file.now (sym c.header_fault-number.ensures ∙ c.if-number-ne0.false) _ c.count_value-mark.ensures _ _ c.is_word-llc.ensures c.sum_good-good.ensures

@@ -63,8 +63,8 @@ loop-j-preserved c =
     let l = c in
     let k = l in
     let s = c in
-    let inv = l.loop-j.inv in (
-      omega (arith, l.loop-j-test.taken),
+    let inv = l.loop-j.invariant in (
+      omega (arith, l.loop-j-test.true),
       (next (goal.at.loop-j-preserved c).After-known_chunk-l).place,
       marked-set k.args.file.now (begun (goal.at.loop-j-preserved c).Start).whole _ _ _ (in_rows (goal.at.loop-j-preserved c).In-loop-j) inv.1 l.known_chunk-l.ensures inv.2 _ s.serial_place.ensures.0 c.mark.ensures,
     )

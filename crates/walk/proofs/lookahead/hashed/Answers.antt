@@ -6,6 +6,7 @@ use native.Mathlib.Omega.{arith}
 use Rattle.filter.proofs.Laws.{covering-long}
 use Rattle.walk.proofs.Ahead.{hashed-none, hashed-far, hashed-more, hashed-all}
 use Rattle.walk.proofs.lookahead.hashed.Goals as goal
+use Rattle.walk.proofs.lookahead.hashed.Goals.{then-place-file, else-place-file}
 
 pub loop-t-init : goal.loop-t-init
 loop-t-init c = let k = c in (hashed-none k.args.file.now k.args.noted.now k.args.words.now, k.requires)
@@ -30,12 +31,12 @@ loop-t-preserved c =
     let inv = l.loop-t.invariant in
     let words = l.loop-t.words in
     let inside = l.loop-t-test.true in
-    ⊎_elim
-    (λ w.
-    let is = w.5 ∙ w.2.ensures in
-    rw is (hashed-more _ _ inv.0 inside _ refl inv.1, covering-long _ words ∙ inv.1))
-    (λ w. rw w.1 (hashed-far _ _ inv.0 inside _ refl (λ y. omega (arith, w.0.left)), inv.1))
-    c.if-place-file.branch
+    elim c.if-place-file.branch [
+      then-place-file w ↦
+        rw (w.words-is ∙ w.mark.ensures) (hashed-more _ _ inv.0 inside _ refl inv.1, covering-long _ words ∙ inv.1)
+    | else-place-file w ↦
+        rw w.words-is (hashed-far _ _ inv.0 inside _ refl (λ y. omega (arith, w.if-place-file.false)), inv.1)
+    ]
 
 pub shape_of-words : goal.shape_of-words
 shape_of-words c = c.loop-t.invariant.1 ∙ sym c.requires

@@ -41,7 +41,7 @@ returns-then-l-ne0 c = let w = c.loop-p.invariant in (w.looked, w.few, w.long, w
 here : (c : Else-l-ne0) → Stands (c).args.file.now c.loop-p.p c.chunk_at-l.result
 here c =
     let l = c in
-    stands l.args.file.now _ _ l.loop-p.inv.inside l.chunk_at-l.ensures c.if-l-ne0.false
+    stands l.args.file.now _ _ l.loop-p.invariant.inside l.chunk_at-l.ensures c.if-l-ne0.false
 
 few : (c : In-loop-p) → c.loop-p.m < 40000
 few c =
@@ -54,13 +54,13 @@ pub serial_place-requires : goal.serial_place-requires
 serial_place-requires c =
     let e = c in
     let l = e in
-    let k = l in record { h_value = k.requires.h_value; number_value = k.requires.number_value; at_in_bounds = l.loop-p.inv.inside; l_value = l.chunk_at-l.ensures; number_value_2 = e.if-l-ne0.false }
+    let k = l in record { h_value = k.requires.h_value; number_value = k.requires.number_value; at_in_bounds = l.loop-p.invariant.inside; l_value = l.chunk_at-l.ensures; number_value_2 = e.if-l-ne0.false }
 
 pub candidate-m-requires : goal.candidate-m-requires
 candidate-m-requires c =
     let l = c in
     let k = l in
-    let inv = l.loop-p.inv in record { words_len = inv.long; places_len = inv.wide; m_lt_room = few (goal.at.candidate-m-requires c).In-loop-p; place_in_bounds = c.serial_place.ensures.1; file_len_bound = k.requires.file_len_bound }
+    let inv = l.loop-p.invariant in record { words_len = inv.long; places_len = inv.wide; m_lt_room = few (goal.at.candidate-m-requires c).In-loop-p; place_in_bounds = c.serial_place.ensures.1; file_len_bound = k.requires.file_len_bound }
 
 pub overflow_add-p : goal.overflow_add-p
 overflow_add-p c = omega (arith, (here (goal.at.overflow_add-p c).Else-l-ne0).inside)
@@ -69,7 +69,7 @@ pub overflow_add-j : goal.overflow_add-j
 overflow_add-j c =
     let l = c in
     let k = l in
-    let inv = l.loop-p.inv in
+    let inv = l.loop-p.invariant in
     omega (arith, inv.counted, inv.inside, k.requires.i_in_bounds, k.requires.file_len_bound, file-few k.args.file.now)
 
 pub loop-p-smaller : goal.loop-p-smaller
@@ -81,7 +81,7 @@ loop-p-preserved c =
     let l = e in
     let k = l in
     let s = c in
-    looking-more (begun (goal.at.loop-p-preserved c).Start).whole l.loop-p.inv _ l.chunk_at-l.ensures e.if-l-ne0.left (few (goal.at.loop-p-preserved c).In-loop-p)
+    looking-more (begun (goal.at.loop-p-preserved c).Start).whole l.loop-p.invariant _ l.chunk_at-l.ensures e.if-l-ne0.false (few (goal.at.loop-p-preserved c).In-loop-p)
     (rw s.serial_place.ensures.0 at s.candidate-m.ensures)
 
 pub shape_of-words : goal.shape_of-words

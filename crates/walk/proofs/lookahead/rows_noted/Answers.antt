@@ -12,9 +12,17 @@ compare-requires c =
     let s = a in
     let k = s in
     let m = s.candidates-chunks.result.noted in
-    let places = s.candidates-chunks.last.1.1.1.1.1.1.0 in
+    let places = s.candidates-chunks.new.places in
     let e = s.candidates-chunks.ensures in
     let kept = a.arrange.ensures.0 in
-    let back = noted_back places a.arrange.last.1.1.0 m (omega (arith, e.1, e.3)) kept in
+    let back = noted_back places a.arrange.new.noted m (omega (arith, e.1, e.3)) kept in
     rw back
-    (k.requires.h_value, (k.requires.number_value, (k.requires.file_len_bound, (a.arrange.ensures.2, (looked-kept e.0 (rw (noted-given places m) at kept), (a.arrange.ensures.1, rw back at (sym r.rising.ensures ∙ t.if-rising.true)))))))
+    (record {
+      h_value = k.requires.h_value;
+      number_value = k.requires.number_value;
+      file_len_bound = k.requires.file_len_bound;
+      words_len = a.arrange.ensures.2;
+      looked = looked-kept e.0 (rw (noted-given places m) at kept);
+      hashed = a.arrange.ensures.1;
+      noted_value = rw back at (sym r.rising.ensures ∙ t.if-rising.true);
+    })

@@ -8,7 +8,7 @@ use lib.ListN.{length, take, drop}
 use Rattle.walk.specs.Survey.{noted}
 use Rattle.walk.proofs.Notes.{note-values, note-rows, note-here, note-other}
 use Rattle.walk.proofs.surveys.note.Goals as goal
-use Rattle.walk.proofs.surveys.note.Goals.{Joined-rows-j}
+use Rattle.walk.proofs.surveys.note.Goals.{Joined-rows-j, then-rows-j, else-rows-j}
 
 pub loop-j-init : goal.loop-j-init
 loop-j-init c = (omega arith, omega arith, refl, refl)
@@ -48,7 +48,10 @@ passed c =
     let l = c in
     let values : l.loop-j.j < length l.loop-j.values = omega arith in
     let rows : l.loop-j.j < length l.args.rows.now = omega arith in
-    ⊎_elim (λ w. note-here _ _ _ _ _ _ l.loop-j.inv.3 values rows _ w.1 w.0.taken) (λ w. note-other _ _ _ _ _ _ l.loop-j.inv.3 values rows _ w.1 w.0.left) c.if-rows-j.branch
+    elim c.if-rows-j.branch [
+      then-rows-j w ↦ note-here _ _ _ _ _ _ l.loop-j.invariant.3 values rows _ w.values-is w.if-rows-j.true
+    | else-rows-j w ↦ note-other _ _ _ _ _ _ l.loop-j.invariant.3 values rows _ w.values-is w.if-rows-j.false
+    ]
 
 pub loop-j-preserved : goal.loop-j-preserved
 loop-j-preserved c =

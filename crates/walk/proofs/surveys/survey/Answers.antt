@@ -69,10 +69,10 @@ loop-c-preserved c =
     let places = s.note.ensures in
     let ends = s.note-in-loop-c.ensures in (
       n.next-c.ensures.0,
-      rw n.next-c.ensures.1 (survey-place file w.begun _ _ w.turn.row _ _ _ places w.behind.place_is l.loop-c.inv.1),
-      rw n.next-c.ensures.1 (survey-end file w.begun _ _ w.turn.row _ _ _ ends w.turn.place l.loop-c.inv.2),
+      rw n.next-c.ensures.1 (survey-place file w.begun _ _ w.turn.row _ _ _ places w.behind.place_is l.loop-c.invariant.1),
+      rw n.next-c.ensures.1 (survey-end file w.begun _ _ w.turn.row _ _ _ ends w.turn.place l.loop-c.invariant.2),
       rw n.next-c.ensures.1
-          (seen_more l.args.serial file w.begun _ _ w.turn.row w.behind.place_is _ _ s.serial_at.ensures s.same_serial-known.ensures _ l.loop-c.inv.3),
+          (seen_more l.args.serial file w.begun _ _ w.turn.row w.behind.place_is _ _ s.serial_at.ensures s.same_serial-known.ensures _ l.loop-c.invariant.3),
     )
 
 pub returns : goal.returns
