@@ -1,4 +1,3 @@
 pub mod Laws
-pub mod LendArray
 pub mod Turns
 pub mod Enough

@@ -4,13 +4,13 @@
 --     begins              at the first test.        goes     after a turn.        stops    where the loop is left
 -- Rests on the laws of the states and of a reading into n rows. Assumes nothing.
 use Prim.Native.Nat.{ℕ, ◌+◌, ◌-◌, ◌≤◌, ◌<◌, min}
-use mathlib.Core.Bool.{Bool, true, false, not}
+use mathlib.Core.Bool.{Bool, true, false, cond}
 use mathlib.Core.Path.{◌≡◌, refl, sym, ap, ◌∙◌}
 use mathlib.Core.List.{List, [], ◌∷◌, ◌++◌}
 use native.Mathlib.Numerals.{add-one}
 use native.Mathlib.Omega.{arith}
 use borrow.Author.Tests.{lt-ltb, ltb-true, ltb-false, leb-true, leb-false}
-use lib.Dec.{T, leb, ltb}
+use lib.Dec.{leb, ltb}
 use lib.ListN.{length, take, drop, set, length-set, take-append-drop}
 use lib.Seq.{take-suc, take-suc-set, drop-set-lt, drop-drop, length-take-le, take_all}
 use Rattle.metafile.specs.declared.Row.{Row}
@@ -32,13 +32,6 @@ use Rattle.walk.proofs.Cursors.{goes-row, goes-there, cursor-stopped, cursor-few
 use Rattle.walk.proofs.Index.{indexed-more}
 use Rattle.walk.proofs.Steps.{lent-stop, lent-number, lent-good}
 use Rattle.read.proofs.Laws.{state-over, state-under, state-stops, state-full, state-row, Onward, onward}
-
--- a test as an equation
-pub holds : (b : Bool) → T b → b ≡ true
-holds true t = refl
-
-pub holds_not : (b : Bool) → T (not b) → b ≡ false
-holds_not false t = refl
 
 -- ---- the call's answer
 
@@ -66,6 +59,10 @@ take-least a l n least =
     (λ q. let h = leb-false (length l) a q in let same : a ≡ n = omega arith in rw same)
 
 -- ---- the loop
+
+-- no fewer than the turns that are left, in a table with this room
+unfoldable pub turns_left : ℕ → State → ℕ
+turns_left room s = cond s.go (room - s.n + 1) 0
 
 module _ (fs : List ℕ) (xs : List Row) where
   pub record Facts (st : State) (ys : List Row) (ix : List ℕ) (m : ℕ) : Type 0 where
@@ -127,16 +124,33 @@ module _ (fs : List ℕ) (xs : List Row) where
         };
       }
 
-  pub goes : (st : State) (ys : List Row) (ix : List ℕ) (m : ℕ) → Facts st ys ix m → T st.go → Turn st ys ix m
+  pub goes : (st : State) (ys : List Row) (ix : List ℕ) (m : ℕ) → Facts st ys ix m → st.go ≡ true → Turn st ys ix m
   unfolding going
   goes st ys ix m f g =
-      let w = onward fs (length xs) f.n (rw f.is at (holds st.go g)) in
+      let w = onward fs (length xs) f.n (rw f.is at g) in
       let all = f.is ∙ w.is in
       let at : st.n ≡ f.n = ap (λ (x : State). x.n) all ∙ w.row_is in
       turn st ys ix m w.under (omega (arith, w.inside)) (omega (arith, w.roomy))
       (f.is ∙ ap (state_at fs (length xs)) (sym at))
       (ap (λ (x : State). x.row) all ∙ ap (row_no (rows_of fs)) (sym (ap (λ (x : State). x.n) all)))
       (omega (arith, f.sum)) f.len (rw at f.done) (rw at f.rest) (rw at f.indexed)
+
+  -- where there is a row to write, the state's number is that of the rows written
+  pub written-are : (st : State) (ys : List Row) (ix : List ℕ) (m : ℕ) → (f : Facts st ys ix m) → st.go ≡ true → st.n ≡ f.n
+  unfolding going
+  written-are st ys ix m f g =
+      let w = onward fs (length xs) f.n (rw f.is at g) in
+      ap (λ (x : State). x.n) (f.is ∙ w.is) ∙ w.row_is
+
+  pub turns-fall : (s t : State) (ys zs : List Row) (ix jx : List ℕ) (m k : ℕ) → Facts s ys ix m → s.go ≡ true → Facts t zs jx k → k < m
+      → turns_left (length zs) t < turns_left (length ys) s
+  unfolding turns_left
+  turns-fall s t ys zs ix jx m k f g h less =
+      let n = written-are s ys ix m f g in
+      rw g
+      (test t.go
+      (λ q. rw q (omega (arith, n, written-are t zs jx k h q, f.sum, h.sum, f.len, h.len)))
+      (λ q. rw q (omega arith)))
 
   -- the table holds these rows and is else as it was
   table_is : (ys rows : List Row) (n : ℕ) → take n ys ≡ rows → length rows ≡ n → drop n ys ≡ drop n xs → ys ≡ rows ++ drop (length rows) xs
@@ -199,7 +213,7 @@ module _ (fs : List ℕ) (xs : List Row) where
       (λ q. rw (state-under fs (length xs) n q)
       (stops-under ys m n (cursor_at fs n) refl sum few q done rest (rw (state-under fs (length xs) n q) at g)))
 
-  pub stops : (st : State) (ys : List Row) (ix : List ℕ) (m : ℕ) → Facts st ys ix m → T (not st.go) → read_outcome (last_of st) ys ≡ read fs xs
+  pub stops : (st : State) (ys : List Row) (ix : List ℕ) (m : ℕ) → Facts st ys ix m → st.go ≡ false → read_outcome (last_of st) ys ≡ read fs xs
   stops st ys ix m f g =
       rw f.is
-      (stops_at ys m f.n f.sum f.few f.none f.done f.rest (rw f.is at (holds_not st.go g)))
+      (stops_at ys m f.n f.sum f.few f.none f.done f.rest (rw f.is at g))

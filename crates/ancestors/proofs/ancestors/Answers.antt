@@ -6,8 +6,6 @@ use lib.ListN.{length}
 use borrow.Author.Tests.{not-true, not-false}
 use Rattle.ancestors.proofs.Noting.{all_noted}
 use Rattle.ancestors.proofs.Answers.{small-counts, refused-11, refused-13, refused-24, refused-23, refused-18, answered}
-use mathlib.Core.Path.{ap}
-use mathlib.Core.Bool.{not}
 use Rattle.ancestors.proofs.ancestors.Goals as goal
 use Rattle.ancestors.proofs.ancestors.Goals.{Else-not-reached}
 
@@ -43,13 +41,13 @@ returns-then-not-reached c =
     let e = s in
     let n = e in
     refused-23 _ _ _ n.if-file-gt-LIMIT.false _ n.note_rows-n.ensures.0 e.if-n-row.false e.if-n-gt-ROWS.false _ s.put_steps.ensures.0
-    _ _ r.reach-reached.ensures (not-true _ (ap not c.if-not-reached.true))
+    _ _ r.reach-reached.ensures (not-true _ c.if-not-reached.true)
 
 -- the marks are as many as rows can be
-marks-room : (c : Else-not-reached) → (c).note-rows.result ≤ length c.reach-reached.result.marks
+marks-room : (c : Else-not-reached) → c.note_rows-n.result ≤ length c.reach-reached.result.marks
 marks-room c =
     let r = c in
-    omega (arith, r.if-n-gt-ROWS.false, r.reach-reached.ensures.long (not-false _ (ap not c.if-not-reached.false)))
+    omega (arith, r.if-n-gt-ROWS.false, r.reach-reached.ensures.long (not-false _ c.if-not-reached.false))
 
 pub count-count-requires : goal.count-count-requires
 count-count-requires c =
@@ -65,7 +63,7 @@ returns-then-list-count c =
     let e = s in
     let n = e in
     refused-18 _ _ _ n.if-file-gt-LIMIT.false _ n.note_rows-n.ensures.0 e.if-n-row.false e.if-n-gt-ROWS.false _ s.put_steps.ensures.0
-    _ _ r.reach-reached.ensures (not-false _ (ap not f.if-not-reached.false)) _ k.count-count.ensures c.if-list-count.true
+    _ _ r.reach-reached.ensures (not-false _ f.if-not-reached.false) _ k.count-count.ensures c.if-list-count.true
 
 pub put_rows-requires : goal.put_rows-requires
 put_rows-requires c =
@@ -91,5 +89,5 @@ returns c =
     let e = s in
     let n = e in
     answered _ _ _ n.if-file-gt-LIMIT.false _ n.note_rows-n.ensures.0 e.if-n-row.false e.if-n-gt-ROWS.false _ s.put_steps.ensures.0
-    _ _ r.reach-reached.ensures (not-false _ (ap not f.if-not-reached.false)) _ k.count-count.ensures _ s.put_steps.ensures.1 o.if-list-count.false
+    _ _ r.reach-reached.ensures (not-false _ f.if-not-reached.false) _ k.count-count.ensures _ s.put_steps.ensures.1 o.if-list-count.false
     _ p.put_rows.ensures _ c.missing.ensures

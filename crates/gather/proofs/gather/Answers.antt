@@ -13,7 +13,6 @@ use Rattle.walk.proofs.Index.{indexed-none}
 use Rattle.walk.proofs.Named.{Named, named}
 use Rattle.gather.proofs.Contents.{contents-of, multi-whole}
 use Rattle.gather.proofs.Answers.{refused-11, refused-row, plain-14, long-14, gather-is}
-use mathlib.Core.Bool.{not}
 use Rattle.gather.proofs.gather.Goals as goal
 use Rattle.gather.proofs.gather.Goals.{Else-id-gt-ID, Else-over_limit, Else-own-ne0}
 
@@ -37,7 +36,7 @@ own c = named _ _ c.row_of-own.result c.row_of-own.ensures.0 c.if-own-ne0.false
 pub returns-then-not-own : goal.returns-then-not-own
 returns-then-not-own c =
     let e = c in
-    plain-14 _ _ _ _ (within (goal.at.returns-then-not-own c).Else-over_limit) _ (own (goal.at.returns-then-not-own c).Else-own-ne0) (not-true _ (ap not c.if-not-own.true))
+    plain-14 _ _ _ _ (within (goal.at.returns-then-not-own c).Else-over_limit) _ (own (goal.at.returns-then-not-own c).Else-own-ne0) (not-true _ c.if-not-own.true)
 
 pub returns-then-id-gt-ID : goal.returns-then-id-gt-ID
 returns-then-id-gt-ID c =
@@ -62,7 +61,7 @@ pub gather_from-requires : goal.gather_from-requires
 gather_from-requires c =
     let s = c in
     let e = s in
-    let w = own (goal.at.gather_from-requires c).Else-own-ne0 in record { r_value = ap multi_fault (contents-of _ _ _ w) ∙ multi-whole _ _ _ w (not-false _ (ap not e.if-not-own.false)); id_len = ap length s.short_id.ensures ∙ length-padded 10 _ e.if-id-gt-ID.false }
+    let w = own (goal.at.gather_from-requires c).Else-own-ne0 in record { r_value = ap multi_fault (contents-of _ _ _ w) ∙ multi-whole _ _ _ w (not-false _ e.if-not-own.false); id_len = ap length s.short_id.ensures ∙ length-padded 10 _ e.if-id-gt-ID.false }
 
 pub returns : goal.returns
 returns c =
@@ -70,4 +69,4 @@ returns c =
     let e = s in
     let w = own (goal.at.returns c).Else-own-ne0 in
     c.gather_from.ensures
-    ∙ gather-is _ _ _ _ (within (goal.at.returns c).Else-over_limit) _ w (not-false _ (ap not e.if-not-own.false)) _ _ (contents-of _ _ _ w) s.short_id.ensures
+    ∙ gather-is _ _ _ _ (within (goal.at.returns c).Else-over_limit) _ w (not-false _ e.if-not-own.false) _ _ (contents-of _ _ _ w) s.short_id.ensures

@@ -9,7 +9,6 @@ use Rattle.walk.specs.Walk.{numbered_of}
 use Rattle.walk.proofs.Index.{indexed-none}
 use Rattle.walk.proofs.Named.{Named, named, named-at, earlier-place}
 use Rattle.parent.proofs.Answers.{refused-row, refused-14, dependency-inside, Met, met, missing, answered}
-use mathlib.Core.Bool.{not}
 use Rattle.parent.proofs.parent.Goals as goal
 use Rattle.parent.proofs.parent.Goals.{After-row_with-found, Else-not-found, Else-own-dependency, Else-own-ne0}
 
@@ -68,12 +67,12 @@ pub returns-then-not-found : goal.returns-then-not-found
 returns-then-not-found c =
     let r = c in
     let e = r in
-    missing _ _ _ _ (own (goal.at.returns-then-not-found c).Else-own-ne0) (has (goal.at.returns-then-not-found c).Else-own-dependency) r.row_with-found.result (other-is (goal.at.returns-then-not-found c).After-row_with-found) (not-true _ (ap not c.if-not-found.true))
+    missing _ _ _ _ (own (goal.at.returns-then-not-found c).Else-own-ne0) (has (goal.at.returns-then-not-found c).Else-own-dependency) r.row_with-found.result (other-is (goal.at.returns-then-not-found c).After-row_with-found) (not-true _ c.if-not-found.true)
 
 found : (c : Else-not-found) → Met c.args.file.now (part ((c.row_behind-own.result.at + 568 + 344 * c.args.dependency) + 25) 38 c.args.file.now) c.row_with-found.result
 found c =
     let other-is : c.row_with-found.result ≡ numbered_of c.args.file.now (part ((c.row_behind-own.result.at + 568 + 344 * c.args.dependency) + 25) 38 c.args.file.now) = c.row_with-found.ensures ∙ ap (numbered_of c.args.file.now) c.serial_at-serial.ensures in
-    met _ _ c.row_with-found.result other-is (not-false _ (ap not c.if-not-found.false))
+    met _ _ c.row_with-found.result other-is (not-false _ c.if-not-found.false)
 
 pub overflow_add-subformat : goal.overflow_add-subformat
 overflow_add-subformat c =

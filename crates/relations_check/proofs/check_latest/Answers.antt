@@ -10,7 +10,6 @@ use Rattle.metafile.specs.Relations.{relations_check, with_row, relations_check_
 use Rattle.walk.proofs.Index.{indexed-none}
 use Rattle.relations_check.proofs.Choosing.{row_named, latest-by, latest-11, latest-13}
 use Rattle.relations_check.proofs.Judgings.{check-is}
-use mathlib.Core.Bool.{not}
 use Rattle.relations_check.proofs.check_latest.Goals as goal
 use Rattle.relations_check.proofs.check_latest.Goals.{After-check_text-answer, After-choose-choice}
 
@@ -31,12 +30,12 @@ small h = omega (arith, h.if-file-gt-LIMIT.false)
 pub returns-then-not-own : goal.returns-then-not-own
 returns-then-not-own c =
     let h = c in
-    latest-13 _ _ (small (goal.at.returns-then-not-own c).After-choose-choice) (h.choose-choice.ensures.0.none (not-true _ (ap not c.if-not-own.true)))
+    latest-13 _ _ (small (goal.at.returns-then-not-own c).After-choose-choice) (h.choose-choice.ensures.0.none (not-true _ c.if-not-own.true))
 
 pub contents-requires : goal.contents-requires
 contents-requires c =
     let e = c in
-    e.choose-choice.ensures.0.at_row (not-false _ (ap not e.if-not-own.false))
+    e.choose-choice.ensures.0.at_row (not-false _ e.if-not-own.false)
 
 pub check_text-answer-requires : goal.check_text-answer-requires
 check_text-answer-requires c =
@@ -51,7 +50,7 @@ checked : (t : After-check_text-answer)
 checked t =
     let e = t in
     let w = e.choose-choice.ensures.0 in
-    let g = not-false _ (ap not e.if-not-own.false) in
+    let g = not-false _ e.if-not-own.false in
     t.check_text-answer.ensures ∙ check-is _ _ _ _ (row_named (w.at_row g)) _ refl (w.relations g) _ t.contents.ensures
 
 -- with the row
@@ -62,7 +61,7 @@ answered : (t : After-check_text-answer) (a : RelationsCheckAnswer) → t.check_
 answered t a is =
     let e = t in
     let w = e.choose-choice.ensures.0 in
-    latest-by _ _ _ (w.row_is (not-false _ (ap not e.if-not-own.false))) _ _
+    latest-by _ _ _ (w.row_is (not-false _ e.if-not-own.false)) _ _
     (ap (λ x. outcome (relations_check_answer x) t.check_text-answer.new.verdicts) (sym is) ∙ checked t)
 
 pub returns-in-Checked : goal.returns-in-Checked

@@ -54,4 +54,4 @@ returns c =
     let p = j in
     let e = p in
     let h = e in
-    text-checked _ _ _ _ (heads (goal.at.returns c).After-is_heading) (not-false _ h.if-not-is_heading.false) _ e.count-n.ensures (room (goal.at.returns c).Else-verdicts-n) _ (j.judge_rows.ensures ∙ judged-tail _ _ _ _ (judging-tail _ _ _ _ p.put_forms.ensures))
+    text-checked _ _ _ _ (heads (goal.at.returns c).After-is_heading) (not-false _ (ap not h.if-not-is_heading.false)) _ e.count-n.ensures (room (goal.at.returns c).Else-verdicts-n) _ (j.judge_rows.ensures ∙ judged-tail _ _ _ _ (judging-tail _ _ _ _ p.put_forms.ensures))
