@@ -80,7 +80,7 @@ module _ (file : List ℕ) (k : ℕ) (id buffer : List ℕ) where
       refused-14 : (not (row_no (rows_of file) k).multichunk || not (member (padded 10 id) (declared_ids (multi_of file k)))) ≡ true
           → outcome (gather_answer (Refused 14)) buffer ≡ gather file k id buffer
       unfolding gather gather_tests gather_answer
-      refused-14 e = outcome-refused _ buffer _ 14 (sym (tests-on _ _ k _ s w.in-rows ∙ refusal-first 14 _ _ e)) (λ z. omega arith)
+      refused-14 e = outcome-refused _ buffer _ 14 (sym (tests-on _ _ k _ s w.in_rows ∙ refusal-first 14 _ _ e)) (λ z. omega arith)
 
       pub plain-14 : f.layout.multichunk ≡ false → outcome (gather_answer (Refused 14)) buffer ≡ gather file k id buffer
       plain-14 e = refused-14 (or_left _ _ (ap not (sym w.multichunk-is ∙ e)))
@@ -96,4 +96,4 @@ module _ (file : List ℕ) (k : ℕ) (id buffer : List ℕ) where
           let room : Test = refuse 18 (ltb (length buffer) (length (multi_joined (padded 10 id) (multi_of file k)))) in
           rw (p, q)
           (same_tests _ _ buffer _
-          (sym (tests-on _ _ k _ s w.in-rows ∙ ap (λ (b : Bool). first_refusal (refuse 14 (not b || not m) ∷ room ∷ [])) (sym w.multichunk-is ∙ e))))
+          (sym (tests-on _ _ k _ s w.in_rows ∙ ap (λ (b : Bool). first_refusal (refuse 14 (not b || not m) ∷ room ∷ [])) (sym w.multichunk-is ∙ e))))

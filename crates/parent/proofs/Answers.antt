@@ -81,24 +81,24 @@ module _ (file : List ℕ) (k j : ℕ) where
     unfolding parent_tests
     refused-14 e =
         let d : (row_no (rows_of file) k).dependencies ≤ j = omega (arith, w.dependencies-is) in
-        refused-with 14 (λ z. omega arith) (tests-on _ _ k _ w.file-small w.in-rows ∙ refusal-first 14 _ [] (le-leb _ _ d))
+        refused-with 14 (λ z. omega arith) (tests-on _ _ k _ w.file-small w.in_rows ∙ refusal-first 14 _ [] (le-leb _ _ d))
 
     module _ (l : j < own.layout.dependencies) where
       pub dependency-inside : own.at + 568 + 344 * j + 344 ≤ length file
-      dependency-inside = omega (arith, w.lies.dependencies-inside, w.place-is, w.dependencies-is)
+      dependency-inside = omega (arith, w.lies.dependencies-inside, w.place_is, w.dependencies-is)
 
       none : first_refusal (parent_tests file k j) ≡ 0
       unfolding parent_tests
       none =
           let d : j < (row_no (rows_of file) k).dependencies = omega (arith, w.dependencies-is) in
-          tests-on _ _ k _ w.file-small w.in-rows ∙ refusal-next 14 _ [] (lt-leb _ _ d) ∙ tests-end
+          tests-on _ _ k _ w.file-small w.in_rows ∙ refusal-next 14 _ [] (lt-leb _ _ d) ∙ tests-end
 
       -- the row with the dependency's serial number
       module _ (f : Numbered) (e : f ≡ numbered_of file (part (own.at + 568 + 344 * j + 25) 38 file)) where
         row_is : row_with (part (own.at + 568 + 344 * j + 25) 38 file) (rows_of file) ≡ parent_row file k j
         unfolding parent_row chunk_of dependency_serial_of
         row_is =
-            let place : own.at + 568 + 344 * j + 25 ≡ (row_no (rows_of file) k).place + (568 + 344 * j + 25) = omega (arith, w.place-is) in
+            let place : own.at + 568 + 344 * j + 25 ≡ (row_no (rows_of file) k).place + (568 + 344 * j + 25) = omega (arith, w.place_is) in
             rw (place, in-chunk file (row_no (rows_of file) k).place (568 + 344 * j + 25) 38)
 
         pub missing : f.there ≡ false → parent_answer Missing ≡ parent file k j
@@ -113,7 +113,7 @@ module _ (file : List ℕ) (k j : ℕ) where
         unfolding parent parent_answer agree chunk_of sub_format_of sub_format dependency_sub_format_of
         answered v b q =
             let p : parent_row file k j ≡ f.row = sym (v.row_is ∙ row_is) in
-            let place : own.at + 568 + 344 * j + 87 ≡ (row_no (rows_of file) k).place + (568 + 344 * j + 87) = omega (arith, w.place-is) in
+            let place : own.at + 568 + 344 * j + 87 ≡ (row_no (rows_of file) k).place + (568 + 344 * j + 87) = omega (arith, w.place_is) in
             let there : ltb f.row (length (rows_of file)) ≡ true = lt-ltb _ _ v.in-rows in
             let is : b ≡ same (part (568 + 344 * j + 87) 256 (drop (row_no (rows_of file) k).place file)) (part 46 256 (drop (row_no (rows_of file) f.row).place file)) =
             q ∙ rw (place, v.place-is, in-chunk file (row_no (rows_of file) k).place (568 + 344 * j + 87) 256, in-chunk file (row_no (rows_of file) f.row).place 46 256) in

@@ -24,7 +24,7 @@ put_closing-requires c =
     let put = c in
     let s = put in
     let at = put.put_lines-at.ensures.0 in
-    (omega (arith, at, title-size), omega (arith, at, title-size, put.put_lines-at.auto.0, header-length (given_of s.args.strategy s.args.mark.now s.args.serial s.args.recorded s.args.recorder.now s.args.written s.args.writer.now) s.requires.0, s.requires.1), search rules)
+    (omega (arith, at, title-size), omega (arith, at, title-size, put.put_lines-at.auto.buffer, header-length (given_of s.args.strategy s.args.mark.now s.args.serial s.args.recorded s.args.recorder.now s.args.written s.args.writer.now) s.requires.0, s.requires.1), search rules)
 
 pub returns : goal.returns
 returns c =

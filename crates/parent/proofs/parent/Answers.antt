@@ -77,14 +77,14 @@ found c =
 pub overflow_add-subformat : goal.overflow_add-subformat
 overflow_add-subformat c =
     let w = found (goal.at.overflow_add-subformat c).Else-not-found in
-    omega (arith, w.lies.dependencies-inside, w.place_is, c.well_formed)
+    omega (arith, w.lies.dependencies-inside, w.place-is, c.well_formed)
 
 pub overflow_add-at-4 : goal.overflow_add-at-4
 overflow_add-at-4 c = let e = c in omega (arith, inside (goal.at.overflow_add-at-4 c).Else-own-dependency, e.good)
 
 pub agree-requires : goal.agree-requires
 agree-requires c =
-    let w = found (goal.at.agree-requires c).Else-not-found in record { a_in_bounds = omega (arith, inside (goal.at.agree-requires c).Else-own-dependency); b_in_bounds = omega (arith, w.lies.dependencies-inside, w.place_is) }
+    let w = found (goal.at.agree-requires c).Else-not-found in record { a_in_bounds = omega (arith, inside (goal.at.agree-requires c).Else-own-dependency); b_in_bounds = omega (arith, w.lies.dependencies-inside, w.place-is) }
 
 pub returns : goal.returns
 returns c =

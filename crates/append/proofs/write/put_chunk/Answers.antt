@@ -64,7 +64,7 @@ put_bytes-second-requires c =
     let a = accepted (goal.at.put_bytes-second-requires c).Start in
     let room = a.room in
     let at = put.put_header-first.ensures.0 ∙ a.first-end in
-    let long = put.put_header-first.auto.0 in
+    let long = put.put_header-first.auto.buffer in
     omega arith
 
 pub slice_bounds-mark-end : goal.slice_bounds-mark-end
@@ -88,8 +88,8 @@ put_closing-third-requires c =
     let room = a.room in
     let at₁ = put₁.put_header-first.ensures.0 ∙ a.first-end in
     let at₂ = put₂.put_bytes-second.ensures.0 in
-    let long₁ = put₁.put_header-first.auto.0 in
-    let long₂ = put₂.put_bytes-second.auto.0 in
+    let long₁ = put₁.put_header-first.auto.buffer in
+    let long₂ = put₂.put_bytes-second.auto.buffer in
     let same-mark = mark-length (take start.args.length start.args.buffer.now) h.header-h.result h.header-h.ensures a.begun in
     let whole-mark = mark-taken (goal.at.put_closing-third-requires c).After-mark_of-mark in
     (omega arith, omega arith, values-wide (goal.at.put_closing-third-requires c).After-closing_values-values)

@@ -33,7 +33,7 @@ put_parents-behind-requires c =
     let kept = file-kept start.args.buffer.now start.args.length (given_of start.args.d start.args.parents.now start.args.specific.now start.args.contents.now start.args.«open») a _ put.put_lines-dependencies.new.buffer put.put_lines-dependencies.ensures.1 in
     let room = a.room in
     let at = rw head_bytes at put.put_lines-dependencies.ensures.0 in
-    let long = put.put_lines-dependencies.auto.0 in record { length_le_at = (omega arith, omega arith); located = rw kept (located (take start.args.length start.args.buffer.now) start.args.d.serial start.args.parents.now start.args.survey start.requires.survey_value start.args.mark start.requires.mark_value a.taken.parents-few a.taken.parents-below) }
+    let long = put.put_lines-dependencies.auto.buffer in record { length_le_at = (omega arith, omega arith); located = rw kept (located (take start.args.length start.args.buffer.now) start.args.d.serial start.args.parents.now start.args.survey start.requires.survey_value start.args.mark start.requires.mark_value a.taken.parents-few a.taken.parents-below) }
 
 pub put_bytes-line-requires : goal.put_bytes-line-requires
 put_bytes-line-requires c =
@@ -42,8 +42,8 @@ put_bytes-line-requires c =
     let room = (accepted (goal.at.put_bytes-line-requires c).Start).room in
     let at₁ = rw head_bytes at put₁.put_lines-dependencies.ensures.0 in
     let at₂ = put₂.put_parents-behind.ensures.0 in
-    let long₁ = put₁.put_lines-dependencies.auto.0 in
-    let long₂ = put₂.put_parents-behind.auto.0 in
+    let long₁ = put₁.put_lines-dependencies.auto.buffer in
+    let long₂ = put₂.put_parents-behind.auto.buffer in
     omega arith
 
 pub put_lines-requires : goal.put_lines-requires
@@ -55,9 +55,9 @@ put_lines-requires c =
     let at₁ = rw head_bytes at put₁.put_lines-dependencies.ensures.0 in
     let at₂ = put₂.put_parents-behind.ensures.0 in
     let at₃ = put₃.put_bytes-line.ensures.0 in
-    let long₁ = put₁.put_lines-dependencies.auto.0 in
-    let long₂ = put₂.put_parents-behind.auto.0 in
-    let long₃ = put₃.put_bytes-line.auto.0 in
+    let long₁ = put₁.put_lines-dependencies.auto.buffer in
+    let long₂ = put₂.put_parents-behind.auto.buffer in
+    let long₃ = put₃.put_bytes-line.auto.buffer in
     (omega arith, rw line-size (search rules), rw line-bytes (omega arith))
 
 pub returns : goal.returns
