@@ -82,6 +82,6 @@ drop-spaces n zero = simp unary_clauses
 drop-spaces zero (suc i) = let none : 0 - suc i ≡ 0 = omega arith in rw none
 drop-spaces (suc n) (suc i) = simp unary_clauses (drop-spaces n i)
 
-pub padded-is : (id : List ℕ) → take (length id) id ++ drop (length id) (replicate 10 32) ≡ padded 10 id
+pub padded-is : (id : List ℕ) → id ++ drop (length id) (replicate 10 32) ≡ padded 10 id
 unfolding padded
-padded-is id = rw (take-length id, drop-spaces 10 (length id))
+padded-is id = rw (drop-spaces 10 (length id))

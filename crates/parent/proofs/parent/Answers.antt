@@ -80,7 +80,7 @@ overflow_add-subformat c =
     omega (arith, w.lies.dependencies-inside, w.place-is, c.well_formed)
 
 pub overflow_add-at-4 : goal.overflow_add-at-4
-overflow_add-at-4 c = let e = c in omega (arith, inside (goal.at.overflow_add-at-4 c).Else-own-dependency, e.good)
+overflow_add-at-4 c = let e = c in omega (arith, inside (goal.at.overflow_add-at-4 c).Else-own-dependency, e.well_formed)
 
 pub agree-requires : goal.agree-requires
 agree-requires c =

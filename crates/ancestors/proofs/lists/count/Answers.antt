@@ -1,10 +1,10 @@
 -- `ancestors::lists::count` meets its contract. Assumes nothing.
 use Prim.Native.Nat.{◌-◌}
-use mathlib.Core.Logic.{⊎_elim}
 use mathlib.Core.Path.{sym, ◌∙◌}
 use native.Mathlib.Omega.{arith}
 use Rattle.ancestors.proofs.Marked.{counting-none, counting-in, counting-out, counted}
 use Rattle.ancestors.proofs.lists.count.Goals as goal
+use Rattle.ancestors.proofs.lists.count.Goals.{then-is_listed, else-is_listed}
 
 pub loop-i-init : goal.loop-i-init
 loop-i-init c = counting-none _ _ _
@@ -26,10 +26,10 @@ loop-i-preserved c =
     let t = c in
     let w = t.loop-i.invariant in
     let is = c.is_listed.ensures in
-    ⊎_elim
-    (λ v. rw v.1 (counting-in _ _ w t.loop-i-test.true (sym is ∙ v.0.taken)))
-    (λ v. rw v.1 (counting-out _ _ w t.loop-i-test.true (sym is ∙ v.0.left)))
-    c.if-is_listed.branch
+    elim c.if-is_listed.branch [
+      then-is_listed v ↦ rw v.count-is (counting-in _ _ w t.loop-i-test.true (sym is ∙ v.if-is_listed.true))
+    | else-is_listed v ↦ rw v.count-is (counting-out _ _ w t.loop-i-test.true (sym is ∙ v.if-is_listed.false))
+    ]
 
 pub returns : goal.returns
 returns c = counted _ _ c.loop-i.invariant c.loop-i-test.false

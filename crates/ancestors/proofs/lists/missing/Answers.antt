@@ -1,11 +1,11 @@
 -- `ancestors::lists::missing` meets its contract. Assumes nothing.
 use Prim.Native.Nat.{◌-◌}
-use mathlib.Core.Logic.{⊎_elim}
 use native.Mathlib.Omega.{arith}
 use borrow.Author.Tests.{eq-eqb, ne_eqb}
 use Rattle.ancestors.specs.Lists.{is_marked}
 use Rattle.ancestors.proofs.Marked.{adding-none, adding-in, adding-out, added}
 use Rattle.ancestors.proofs.lists.missing.Goals as goal
+use Rattle.ancestors.proofs.lists.missing.Goals.{then-marks-i-eq-DONE, else-marks-i-eq-DONE}
 
 pub loop-i-init : goal.loop-i-init
 loop-i-init c = adding-none _ _ _
@@ -36,10 +36,10 @@ unfolding is_marked
 loop-i-preserved c =
     let t = c in
     let w = t.loop-i.invariant in
-    ⊎_elim
-    (λ v. rw v.2 (adding-in _ _ w t.loop-i-test.true t.requires.small (eq-eqb _ _ v.0.taken)))
-    (λ v. rw v.1 (adding-out _ _ w t.loop-i-test.true (ne_eqb _ _ v.0.left)))
-    c.if-marks-i-eq-DONE.branch
+    elim c.if-marks-i-eq-DONE.branch [
+      then-marks-i-eq-DONE v ↦ rw v.sum-is (adding-in _ _ w t.loop-i-test.true t.requires.small (eq-eqb _ _ v.if-marks-i-eq-DONE.true))
+    | else-marks-i-eq-DONE v ↦ rw v.sum-is (adding-out _ _ w t.loop-i-test.true (ne_eqb _ _ v.if-marks-i-eq-DONE.false))
+    ]
 
 pub returns : goal.returns
 returns c = added _ _ c.loop-i.invariant c.loop-i-test.false

@@ -1,12 +1,11 @@
 -- `ancestors::lists::put_rows` meets its contract. Assumes nothing.
 use Prim.Native.Nat.{◌-◌, ◌<◌}
-use mathlib.Core.Logic.{⊎_elim}
 use mathlib.Core.Path.{◌≡◌, sym, ◌∙◌}
 use native.Mathlib.Omega.{arith}
 use lib.ListN.{length}
 use Rattle.ancestors.proofs.Marked.{counting-none, counting-in, counting-out, listed-room, put-none, put_in, put-out, put-long}
 use Rattle.ancestors.proofs.lists.put_rows.Goals as goal
-use Rattle.ancestors.proofs.lists.put_rows.Goals.{Then-is_listed}
+use Rattle.ancestors.proofs.lists.put_rows.Goals.{Then-is_listed, then-is_listed, else-is_listed}
 
 pub loop-i-init : goal.loop-i-init
 loop-i-init c = (counting-none _ _ _, put-none _ _ _)
@@ -57,14 +56,14 @@ loop-i-preserved c =
     let w = l.loop-i.invariant.0 in
     let less = t.loop-i-test.true in
     let is = c.is_listed.ensures in
-    ⊎_elim
-    (λ v.
-    let e = sym is ∙ v.0.taken in
-    rw (v.1, v.2) (counting-in _ _ w less e, rw l.loop-i.invariant.1 (put_in _ _ _ _ _ _ less e l.requires.n_in_bounds_2 w.is)))
-    (λ v.
-    let e = sym is ∙ v.0.left in
-    rw (v.1, v.2) (counting-out _ _ w less e, l.loop-i.invariant.1 ∙ put-out _ _ _ _ e))
-    c.if-is_listed.branch
+    elim c.if-is_listed.branch [
+      then-is_listed v ↦
+        let e = sym is ∙ v.if-is_listed.true in
+        rw (v.used-is, v.list-is) (counting-in _ _ w less e, rw l.loop-i.invariant.1 (put_in _ _ _ _ _ _ less e l.requires.n_in_bounds_2 w.is))
+    | else-is_listed v ↦
+        let e = sym is ∙ v.if-is_listed.false in
+        rw (v.used-is, v.list-is) (counting-out _ _ w less e, l.loop-i.invariant.1 ∙ put-out _ _ _ _ e)
+    ]
 
 pub shape_of-list : goal.shape_of-list
 shape_of-list c =

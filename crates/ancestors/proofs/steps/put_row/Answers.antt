@@ -1,19 +1,18 @@
 -- `ancestors::steps::put_row` meets its contract. Assumes nothing.
 use Prim.Native.Nat.{◌+◌, ◌-◌, ◌*◌, ◌≤◌}
-use mathlib.Core.Logic.{⊎_elim}
 use mathlib.Core.Path.{◌≡◌, sym, ◌∙◌}
 use native.Mathlib.Omega.{arith}
 use lib.ListN.{length}
 use Rattle.metafile.specs.Calls.{parent_row}
 use Rattle.ancestors.proofs.Tabling.{tabling-none, tabling_row, tabling-missing, tabled, tabled-missing, dependency-inside, parent_is}
 use Rattle.ancestors.proofs.steps.put_row.Goals as goal
-use Rattle.ancestors.proofs.steps.put_row.Goals.{After-row_with-parent, In-loop-j}
+use Rattle.ancestors.proofs.steps.put_row.Goals.{After-row_with-parent, In-loop-j, then-parent-n, else-parent-n}
 
 pub overflow_add-first : goal.overflow_add-first
-overflow_add-first c = let s = c in omega (arith, s.requires.chunk_at.inside, s.good)
+overflow_add-first c = let s = c in omega (arith, s.requires.chunk_at.inside, s.well_formed)
 
 pub overflow_add-first-2 : goal.overflow_add-first-2
-overflow_add-first-2 c = let s = c in omega (arith, s.requires.chunk_at.inside, s.good)
+overflow_add-first-2 c = let s = c in omega (arith, s.requires.chunk_at.inside, s.well_formed)
 
 pub loop-j-init : goal.loop-j-init
 loop-j-init c = let s = c in (tabling-none s.requires.tabled s.requires.serials.few s.requires.row_lt_n, omega arith)
@@ -24,10 +23,10 @@ inside : (c : In-loop-j)
 inside c = dependency-inside c.requires.chunk_at c.loop-j.j c.loop-j-test.true
 
 pub overflow_mul-j : goal.overflow_mul-j
-overflow_mul-j c = omega (arith, inside c, c.good)
+overflow_mul-j c = omega (arith, inside c, c.well_formed)
 
 pub overflow_add-first-in-loop-j : goal.overflow_add-first-in-loop-j
-overflow_add-first-in-loop-j c = omega (arith, inside c, c.good)
+overflow_add-first-in-loop-j c = omega (arith, inside c, c.well_formed)
 
 pub row_with-parent-requires : goal.row_with-parent-requires
 row_with-parent-requires c = record { serials = c.requires.serials; serial_in_bounds = inside c }
@@ -65,10 +64,10 @@ loop-j-preserved c =
     let w = t.loop-j.invariant.0 in
     let p = t.requires in
     let less = t.loop-j-test.true in
-    ⊎_elim
-    (λ v. rw (v.1, v.2) (tabling_row w _ (parent (goal.at.loop-j-preserved c).After-row_with-parent) p.serials.count p.serials.few p.row_lt_n v.0.taken, omega arith))
-    (λ v. rw (v.1, v.2) (tabling-missing w _ (parent (goal.at.loop-j-preserved c).After-row_with-parent) p.serials.count v.0.left, omega arith))
-    c.if-parent-n.branch
+    elim c.if-parent-n.branch [
+      then-parent-n v ↦ rw (v.table-is, v.missing-is) (tabling_row w _ (parent (goal.at.loop-j-preserved c).After-row_with-parent) p.serials.count p.serials.few p.row_lt_n v.if-parent-n.true, omega arith)
+    | else-parent-n v ↦ rw (v.table-is, v.missing-is) (tabling-missing w _ (parent (goal.at.loop-j-preserved c).After-row_with-parent) p.serials.count v.if-parent-n.false, omega arith)
+    ]
 
 pub shape_of-table : goal.shape_of-table
 shape_of-table c = c.loop-j.invariant.0.long ∙ sym c.requires.tabled.long

@@ -16,7 +16,7 @@ pub loop-i-init : goal.loop-i-init
 loop-i-init c = omega arith
 
 pub offset_bounds-serials-i : goal.offset_bounds-serials-i
-offset_bounds-serials-i c = omega (arith, c.good, c.requires.serials.few, c.requires.serials.long)
+offset_bounds-serials-i c = omega (arith, c.well_formed, c.requires.serials.few, c.requires.serials.long)
 
 pub bounds-serials-i : goal.bounds-serials-i
 bounds-serials-i c = let s = c in omega (arith, s.requires.serials.few, s.requires.serials.long)
@@ -36,7 +36,7 @@ own-inside : (c : After-shared_slice_known-in-loop-i-1)
 own-inside c = let l = c in (l.requires.serials.all l.loop-i.i c.loop-i-test.true).inside
 
 pub overflow_add-own : goal.overflow_add-own
-overflow_add-own c = omega (arith, own-inside (goal.at.overflow_add-own c).After-shared_slice_known-in-loop-i-1, c.good)
+overflow_add-own c = omega (arith, own-inside (goal.at.overflow_add-own c).After-shared_slice_known-in-loop-i-1, c.well_formed)
 
 pub slice_bounds-same_bytes-count-in-loop-i : goal.slice_bounds-same_bytes-count-in-loop-i
 slice_bounds-same_bytes-count-in-loop-i c = omega arith
