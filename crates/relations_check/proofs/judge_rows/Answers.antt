@@ -1,5 +1,4 @@
 -- `relations_check::judge_rows` meets its contract. Assumes nothing.
-use Prim.Native.Nat.{◌-◌}
 use mathlib.Core.Path.{refl, sym, ◌∙◌}
 use native.Mathlib.Omega.{arith}
 use Rattle.chunk_laws.proofs.File.{file-few}

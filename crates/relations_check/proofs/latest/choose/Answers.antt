@@ -1,12 +1,11 @@
 -- `relations_check::latest::choose` meets its contract. Assumes nothing.
-use Prim.Native.Nat.{◌-◌}
 use mathlib.Core.Path.{refl, sym, ap, ◌∙◌}
 use native.Mathlib.Omega.{arith}
 use Rattle.walk.specs.declared.cursor.Cursor.{Cursor}
 use Rattle.walk.specs.Cursor.{cursor_none}
 use Rattle.walk.proofs.Index.{index-long}
 use Rattle.walk.proofs.Cursors.{there}
-use Rattle.walk.proofs.Places.{ended}
+use Rattle.walk.proofs.PlaceLaws.{ended}
 use Rattle.relations_check.proofs.Choosing.{holding-none, chosen_is}
 use Rattle.relations_check.proofs.latest.choose.Goals as goal
 

@@ -8,7 +8,7 @@ use Rattle.relations_check.proofs.Lines.{rest_of}
 use Rattle.relations_check.proofs.text.count.Given as goal
 
 abbrev pub invariant-loop-p : goal.invariant-loop-p
-invariant-loop-p l = (l.initial.p ≤ l.n) × (l.n ≤ length text + 1) × (l.initial.p + length (verdicts_by never (rest_of l.n.before.before.args.text.now)) ≡ length (verdicts_by never (split_on 10 text)))
+invariant-loop-p l = (l.n ≤ l.p) × (l.p ≤ length l.text + 1) × (l.n + length (verdicts_by never (rest_of l.text l.p)) ≡ length (verdicts_by never (split_on 10 l.text)))
 
 abbrev pub decreases-loop-p : goal.decreases-loop-p
-decreases-loop-p l = length text + 1 - l.n
+decreases-loop-p l = length l.text + 1 - l.p

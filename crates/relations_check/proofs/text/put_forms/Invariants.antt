@@ -9,8 +9,9 @@ use Rattle.relations_check.proofs.text.put_forms.Given as goal
 
 abbrev pub invariant-loop-p : goal.invariant-loop-p
 invariant-loop-p l =
-    (l.verdicts ≤ l.i) × (l.i ≤ length text + 1) × (length l.initial.p ≡ length verdicts₀) × Listing never (split_on 10 text) (rest_of (l.i.args.text.now)) l.verdicts l.initial.p
-    × (drop l.verdicts l.initial.p ≡ drop l.verdicts verdicts₀)
+    (l.i ≤ l.p) × (l.p ≤ length l.text + 1) × (length l.verdicts ≡ length l.initial.verdicts)
+    × Listing never (split_on 10 l.text) (rest_of l.text l.p) l.i l.verdicts
+    × (drop l.i l.verdicts ≡ drop l.i l.initial.verdicts)
 
 abbrev pub decreases-loop-p : goal.decreases-loop-p
-decreases-loop-p l = length text + 1 - l.i
+decreases-loop-p l = length l.text + 1 - l.p

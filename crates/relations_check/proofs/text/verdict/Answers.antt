@@ -24,20 +24,24 @@ some : (k : Start) → form_of k.args.line.now ≡ 0 → ⊥
 some k = named-form k.args.line.now k.requires.line_value
 
 pub returns-then-before-ne-UNDECLARED : goal.returns-then-before-ne-UNDECLARED
-returns-then-before-ne-UNDECLARED c = let k = c in verdict-kept (before k) (after k) k.args.line.now (more (goal.at.returns-then-before-ne-UNDECLARED c).Start) (some (goal.at.returns-then-before-ne-UNDECLARED c).Start) _ k.requires.before_value c.if-before-ne-UNDECLARED.true
+returns-then-before-ne-UNDECLARED c =
+    let k = (goal.at.returns-then-before-ne-UNDECLARED c).Start in
+    verdict-kept (before k) (after k) k.args.line.now (more k) (some k) _ k.requires.before_value c.if-before-ne-UNDECLARED.true
 
 pub is_declared-requires : goal.is_declared-requires
 is_declared-requires c =
-    let k = c in record { window_of = k.requires.window_of; line_value = verdict-form (before k) (after k) k.args.line.now (more (goal.at.is_declared-requires c).Start) (some (goal.at.is_declared-requires c).Start) _ k.requires.before_value c.if-before-ne-UNDECLARED.false }
+    let k = (goal.at.is_declared-requires c).Start in
+    record {
+      window_of = k.requires.window_of;
+      line_value = verdict-form (before k) (after k) k.args.line.now (more k) (some k) _ k.requires.before_value c.if-before-ne-UNDECLARED.false;
+    }
 
 pub returns-then-is_declared : goal.returns-then-is_declared
 returns-then-is_declared c =
-    let d = c in
-    let k = d in
-    verdict-now (before k) (after k) k.args.line.now (more (goal.at.returns-then-is_declared c).Start) (some (goal.at.returns-then-is_declared c).Start) _ k.requires.before_value d.if-before-ne-UNDECLARED.false true (rw c.if-is_declared.true at d.is_declared.ensures)
+    let k = (goal.at.returns-then-is_declared c).Start in
+    verdict-now (before k) (after k) k.args.line.now (more k) (some k) _ k.requires.before_value c.if-before-ne-UNDECLARED.false true (rw c.if-is_declared.true at c.is_declared.ensures)
 
 pub returns : goal.returns
 returns c =
-    let d = c in
-    let k = d in
-    verdict-now (before k) (after k) k.args.line.now (more (goal.at.returns c).Start) (some (goal.at.returns c).Start) _ k.requires.before_value d.if-before-ne-UNDECLARED.false false (rw c.if-is_declared.false at d.is_declared.ensures)
+    let k = (goal.at.returns c).Start in
+    verdict-now (before k) (after k) k.args.line.now (more k) (some k) _ k.requires.before_value c.if-before-ne-UNDECLARED.false false (rw c.if-is_declared.false at c.is_declared.ensures)

@@ -1,5 +1,5 @@
 -- `relations_check::window::fill` meets its contract. Assumes nothing.
-use Prim.Native.Nat.{◌+◌, ◌-◌, ◌<◌}
+use Prim.Native.Nat.{◌+◌, ◌<◌}
 use mathlib.Core.Path.{◌≡◌, refl, sym, ◌∙◌}
 use native.Mathlib.Omega.{arith}
 use lib.ListN.{length}
@@ -22,7 +22,7 @@ in_rows : (c : In-loop-n) → c.args.from + c.loop-n.n < length (rows_of c.args.
 in_rows c = let k = c in omega (arith, c.loop-n-test.true, k.requires.rows_value, k.requires.from_lt_rows)
 
 pub overflow_add-from : goal.overflow_add-from
-overflow_add-from c = let k = c in omega (arith, c.loop-n-test.true, k.requires.from_lt_rows, k.fits.rows)
+overflow_add-from c = let k = c in omega (arith, c.loop-n-test.true, k.requires.from_lt_rows, k.ranges.rows.fits)
 
 pub row_at-row-requires : goal.row_at-row-requires
 row_at-row-requires c = record { behind = c.loop-n.invariant.0; n_in_bounds = in_rows c }

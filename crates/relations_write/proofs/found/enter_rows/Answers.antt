@@ -1,7 +1,6 @@
 -- `relations_write::found::enter_rows` meets its contract. The loop's invariant: the n entries are the relations rows before row
 -- k, which begins at `at`. Assumes nothing.
-use Prim.Native.Nat.{◌-◌, ◌≤◌}
-use mathlib.Core.Logic.{⊎_elim}
+use Prim.Native.Nat.{◌≤◌}
 use mathlib.Core.Path.{◌≡◌, sym, ap, ◌∙◌}
 use native.Mathlib.Omega.{arith}
 use lib.ListN.{length}
@@ -9,7 +8,7 @@ use Rattle.metafile.specs.Calls.{chunk_of}
 use Rattle.metafile.specs.Relations.{is_relations}
 use Rattle.relations_write.proofs.Finds.{row-chunk, held_none, held-other, held_kept, held_more}
 use Rattle.relations_write.proofs.found.enter_rows.Goals as goal
-use Rattle.relations_write.proofs.found.enter_rows.Goals.{After-is_relations}
+use Rattle.relations_write.proofs.found.enter_rows.Goals.{After-is_relations, then-is_relations+else-more-n, else-is_relations}
 
 pub loop-k-init : goal.loop-k-init
 loop-k-init c =
@@ -67,11 +66,12 @@ loop-k-preserved c =
     let is = sym (row_is (goal.at.loop-k-preserved c).After-is_relations) in (
       λ z. w.next,
       omega (arith, l.loop-k-test.true),
-      ⊎_elim
-          (λ t. rw (t.6, t.7)
-          (held_more _ _ _ _ inv.2 _ _ _ _ t.2.ensures t.5.left w.serial-is (is ∙ t.0.taken)))
-          (λ t. rw (t.1, t.2) (held-other _ _ _ _ inv.2 (is ∙ t.0.left)))
-          c.if-is_relations.branch,
+      elim c.if-is_relations.branch [
+        then-is_relations+else-more-n t ↦
+          rw (t.d-is, t.n-is)
+          (held_more _ _ _ _ inv.2 _ _ _ _ t.add-more.ensures t.if-more-n.false w.serial-is (is ∙ t.if-is_relations.true))
+      | else-is_relations t ↦ rw (t.d-is, t.n-is) (held-other _ _ _ _ inv.2 (is ∙ t.if-is_relations.false))
+      ],
     )
 
 pub shape_of-d : goal.shape_of-d

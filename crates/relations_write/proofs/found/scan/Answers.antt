@@ -1,6 +1,6 @@
 -- `relations_write::found::scan` meets its contract. The loop's invariant: the serial number is in no row from `from` up to row
 -- k, which begins at `at`. Assumes nothing.
-use Prim.Native.Nat.{◌-◌, ◌<◌}
+use Prim.Native.Nat.{◌<◌}
 use native.Mathlib.Omega.{arith}
 use lib.ListN.{length}
 use Rattle.metafile.specs.Reading.{rows_of}

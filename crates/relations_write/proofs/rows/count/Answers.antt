@@ -1,6 +1,6 @@
 -- `relations_write::rows::count` meets its contract. The loop's invariant: the rows before row k, which begins at `at`, have
 -- these lines, each with 344 bytes of its own before that place. Assumes nothing.
-use Prim.Native.Nat.{◌+◌, ◌-◌, ◌*◌, ◌≤◌}
+use Prim.Native.Nat.{◌+◌, ◌*◌, ◌≤◌}
 use mathlib.Core.Path.{◌≡◌, refl, ap, ◌∙◌}
 use native.Mathlib.Omega.{arith}
 use lib.ListN.{length, drop}

@@ -1,8 +1,7 @@
 -- `relations_write::rows::listed` meets its contract. The loop's invariant: `count` of the dependencies before dependency j are
 -- listed. Assumes nothing.
-use Prim.Native.Nat.{ℕ, ◌-◌}
+use Prim.Native.Nat.{ℕ}
 use mathlib.Core.Bool.{Bool, true, false}
-use mathlib.Core.Logic.{⊎_elim}
 use mathlib.Core.Path.{◌≡◌, refl, sym, ◌∙◌}
 use native.Mathlib.Omega.{arith}
 use lib.ListN.{drop}
@@ -10,7 +9,7 @@ use Rattle.relations_write.specs.Found.{listed_in}
 use Rattle.relations_write.specs.Counted.{count_below}
 use Rattle.relations_write.proofs.Lines.{count-few, count_next}
 use Rattle.relations_write.proofs.rows.listed.Goals as goal
-use Rattle.relations_write.proofs.rows.listed.Goals.{Start}
+use Rattle.relations_write.proofs.rows.listed.Goals.{Start, then-is_listed, else-is_listed}
 
 -- which dependencies are listed
 abbrev tested : Start → ℕ → Bool
@@ -26,19 +25,19 @@ is_listed-requires c = record { found_in = c.requires.found_in; j_in_bounds = om
 pub overflow_add-count : goal.overflow_add-count
 overflow_add-count c =
     let l = c in
-    omega (arith, l.loop-j-test.true, l.loop-j.invariant.1, count-few (tested l) l.loop-j.j)
+    omega (arith, l.loop-j-test.true, l.loop-j.invariant.1, count-few (tested (goal.at.overflow_add-count c).Start) l.loop-j.j)
 
 pub loop-j-preserved : goal.loop-j-preserved
 loop-j-preserved c =
     let l = c in
     let inv = l.loop-j.invariant in
-    let next = count_next (tested l) l.loop-j.j in
+    let next = count_next (tested (goal.at.loop-j-preserved c).Start) l.loop-j.j in
     let is = sym c.is_listed.ensures in (
       omega (arith, l.loop-j-test.true),
-      ⊎_elim
-          (λ t. omega (arith, t.1, inv.1, next true (is ∙ t.0.taken)))
-          (λ t. omega (arith, t.1, inv.1, next false (is ∙ t.0.left)))
-          c.if-is_listed.branch,
+      elim c.if-is_listed.branch [
+        then-is_listed t ↦ omega (arith, t.count-is, inv.1, next true (is ∙ t.if-is_listed.true))
+      | else-is_listed t ↦ omega (arith, t.count-is, inv.1, next false (is ∙ t.if-is_listed.false))
+      ],
     )
 
 pub returns : goal.returns

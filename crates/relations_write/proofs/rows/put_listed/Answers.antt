@@ -1,8 +1,7 @@
 -- `relations_write::rows::put_listed` meets its contract. The loop's invariant: the lines of the dependencies before dependency j
 -- are put, up to q. Assumes nothing.
-use Prim.Native.Nat.{ℕ, ◌+◌, ◌-◌, ◌*◌, ◌≤◌}
+use Prim.Native.Nat.{ℕ, ◌+◌, ◌*◌, ◌≤◌}
 use mathlib.Core.Bool.{Bool, true}
-use mathlib.Core.Logic.{⊎_elim}
 use mathlib.Core.Path.{◌≡◌, sym, ◌∙◌}
 use native.Mathlib.Omega.{arith}
 use lib.ListN.{length, drop, length-take, length-drop}
@@ -10,7 +9,7 @@ use Rattle.relations_write.specs.Found.{listed_in}
 use Rattle.relations_write.specs.Counted.{count_below}
 use Rattle.relations_write.proofs.Lines.{count-le, count_next, put-room, line-put, chunk-none, listed-put, unlisted-put}
 use Rattle.relations_write.proofs.rows.put_listed.Goals as goal
-use Rattle.relations_write.proofs.rows.put_listed.Goals.{Start}
+use Rattle.relations_write.proofs.rows.put_listed.Goals.{Start, then-is_listed, else-is_listed}
 
 -- which dependencies are listed
 abbrev tested : Start → ℕ → Bool
@@ -36,7 +35,7 @@ put_line-q-requires c =
     let k = l in
     let j = l.loop-j.j in
     let inv = l.loop-j.invariant in
-    let next = count_next (tested k) j true (sym i.is_listed.ensures ∙ c.if-is_listed.true) in record { serial_len = simp (length-take, length-drop) (omega (arith, k.requires.serial_in_bounds)); j_in_bounds = simp (length-take, length-drop) (omega (arith, l.loop-j-test.true, k.requires.n_in_bounds)); at_in_bounds = omega (
+    let next = count_next (tested (goal.at.put_line-q-requires c).Start) j true (sym i.is_listed.ensures ∙ c.if-is_listed.true) in record { serial_len = simp (length-take, length-drop) (omega (arith, k.requires.serial_in_bounds)); j_in_bounds = simp (length-take, length-drop) (omega (arith, l.loop-j-test.true, k.requires.n_in_bounds)); at_in_bounds = omega (
           arith,
           next,
           inv.1.ends,
@@ -55,12 +54,13 @@ loop-j-preserved c =
     let more : j + 1 ≤ k.args.n = omega (arith, l.loop-j-test.true) in
     let inside : k.args.at + (568 + 344 * j + 344) ≤ length file = omega (arith, k.requires.n_in_bounds) in (
       more,
-      ⊎_elim
-          (λ t. rw (t.7, t.8)
-          (listed-put file _ _ j inv.1 (is ∙ t.0.taken) (room (goal.at.loop-j-preserved c).Start (j + 1) more)
-          (line-put file _ _ j k.requires.serial_in_bounds inside _ _ t.4.ensures.0 _ _ t.4.ensures.1)))
-          (λ t. rw (t.1, t.2) (unlisted-put file _ _ j inv.1 (is ∙ t.0.left)))
-          c.if-is_listed.branch,
+      elim c.if-is_listed.branch [
+        then-is_listed t ↦
+          rw (t.buffer-is, t.q-is)
+          (listed-put file _ _ j inv.1 (is ∙ t.if-is_listed.true) (room (goal.at.loop-j-preserved c).Start (j + 1) more)
+          (line-put file _ _ j k.requires.serial_in_bounds inside _ _ t.put_line-q.ensures.0 _ _ t.put_line-q.ensures.1))
+      | else-is_listed t ↦ rw (t.buffer-is, t.q-is) (unlisted-put file _ _ j inv.1 (is ∙ t.if-is_listed.false))
+      ],
     )
 
 pub shape_of-buffer : goal.shape_of-buffer

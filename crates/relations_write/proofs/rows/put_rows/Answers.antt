@@ -1,6 +1,6 @@
 -- `relations_write::rows::put_rows` meets its contract. The loop's invariant: the lines of the rows before row k, which begins at
 -- `at`, are put, up to p. Assumes nothing.
-use Prim.Native.Nat.{ℕ, ◌+◌, ◌-◌, ◌*◌, ◌≤◌}
+use Prim.Native.Nat.{ℕ, ◌+◌, ◌*◌, ◌≤◌}
 use mathlib.Core.Path.{◌≡◌}
 use native.Mathlib.Omega.{arith}
 use lib.ListN.{length}
