@@ -6,7 +6,7 @@
 // Answers).
 //     row      the row at which a cursor stands
 //     latest   the relation chunk that holds
-//     text     the lines of the text: counted, judged
+//     text_lines   the lines of the text: counted, judged
 //     window   rows in a directory
 #![tactic(auto)]
 
@@ -23,7 +23,7 @@ use walk::Cursor;
 
 mod latest;
 mod row;
-mod text;
+mod text_lines;
 mod window;
 
 // The verdicts of the text's lines, by all rows.
@@ -40,7 +40,7 @@ fn judge_rows(file: &[u8], end: Cursor, d: &mut [u32], text: &[u8], verdicts: &m
     while k < end.row {
         directory::clear(d);
         let w = window::fill(file, h, k, at, end.row, d);
-        text::judge(file, d, w, text, verdicts);
+        text_lines::judge(file, d, w, text, verdicts);
         k = w.from + w.entries;
         at = w.end;
     }
@@ -59,14 +59,14 @@ fn check_text(
     requires d_len { length d.old ≡ size }
     ensures { outcome (relations_check_answer result) verdicts.new ≡ checked_text file.now text.now verdicts.old }
 {
-    if !relation_line::is_heading(&text[..text::line_end(text, 0)]) {
+    if !relation_line::is_heading(&text[..text_lines::line_end(text, 0)]) {
         return RelationsCheckAnswer::Refused(refusals::HEADING);
     }
-    let n = text::count(text);
+    let n = text_lines::count(text);
     if verdicts.len() < n {
         return RelationsCheckAnswer::Refused(refusals::NO_ROOM);
     }
-    text::put_forms(text, verdicts);
+    text_lines::put_forms(text, verdicts);
     judge_rows(file, end, d, text, verdicts);
     RelationsCheckAnswer::Checked(n)
 }

@@ -1,4 +1,4 @@
--- `relations_check::text::judge` meets its contract. Assumes nothing.
+-- `relations_check::text_lines::judge` meets its contract. Assumes nothing.
 use Prim.Native.Nat.{ℕ, ◌+◌, ◌-◌, ◌≤◌, ◌<◌}
 use mathlib.Core.Bool.{Bool, true, false}
 use mathlib.Core.Path.{◌≡◌, refl, sym, ◌∙◌}
@@ -10,8 +10,8 @@ use Rattle.metafile.specs.Relations.{split_on, verdict_by, verdicts_by}
 use Rattle.relation_line.specs.Form.{has_name}
 use Rattle.relations_check.specs.Judged.{never, declared_below}
 use Rattle.relations_check.proofs.Lines.{rest_of, rest-start, rest-step, rest_end, verdicts-line, verdicts-comment, head-is, Listing, listing_none, listing-comment, listing-line, listing-end}
-use Rattle.relations_check.proofs.text.judge.Goals as goal
-use Rattle.relations_check.proofs.text.judge.Goals.{After-line_end-end, then-is_named, else-is_named}
+use Rattle.relations_check.proofs.text_lines.judge.Goals as goal
+use Rattle.relations_check.proofs.text_lines.judge.Goals.{After-line_end-end, then-is_named, else-is_named}
 
 -- what the list had behind the verdicts
 abbrev tail : List ℕ → List ℕ → List ℕ
@@ -117,30 +117,30 @@ loop-p-preserved c =
     let inv = c.loop-p.invariant in
     -- the list behind the line
     let passed : (c.if-is_named.i ≤ c.loop-p.i + 1) × (length c.if-is_named.verdicts ≡ length c.args.verdicts.now)
-        × Listing (new e) (split_on 10 c.args.text.now) (rest e) c.if-is_named.i c.if-is_named.verdicts
-        × (drop c.if-is_named.i c.if-is_named.verdicts ≡ verdicts_by (old e) (rest e) ++ tail c.args.text.now c.args.verdicts.now) =
+    × Listing (new e) (split_on 10 c.args.text.now) (rest e) c.if-is_named.i c.if-is_named.verdicts
+    × (drop c.if-is_named.i c.if-is_named.verdicts ≡ verdicts_by (old e) (rest e) ++ tail c.args.text.now c.args.verdicts.now) =
     elim c.if-is_named.branch [
-      then-is_named w ↦
-        let name : has_name (line e) ≡ true = sym c.is_named.ensures ∙ w.if-is_named.true in
-        let h = head e name in
-        let v : ℕ = w.verdict.result in
-        let is : v ≡ verdict_by (new e) (line e) = w.verdict.ensures in
-        let list : c.if-is_named.verdicts ≡ set c.loop-p.verdicts c.loop-p.i v = w.verdicts-is in
-        let on : c.if-is_named.i ≡ c.loop-p.i + 1 = w.i-is in (
-          omega (arith, on),
-          rw list (length-set c.loop-p.verdicts c.loop-p.i v ∙ inv.2),
-          rw (list, on) (listing-line name h.0 is (listing e)),
-          rw (list, on) (drop-set-lt (c.loop-p.i + 1) c.loop-p.verdicts c.loop-p.i v (omega arith) ∙ h.2),
-        )
-    | else-is_named w ↦
-        let other : has_name (line e) ≡ false = sym c.is_named.ensures ∙ w.if-is_named.false in
-        let same : c.if-is_named.verdicts ≡ c.loop-p.verdicts = w.verdicts-is in
-        let on : c.if-is_named.i ≡ c.loop-p.i = w.i-is in (
-          omega (arith, on),
-          rw same inv.2,
-          rw (same, on) (listing-comment other (listing e)),
-          rw (same, on) (rw (verdicts-comment (old e) (line e) (rest e) other) at (behind e)),
-        )
+      | then-is_named w ↦
+          let name : has_name (line e) ≡ true = sym c.is_named.ensures ∙ w.if-is_named.true in
+          let h = head e name in
+          let v : ℕ = w.verdict.result in
+          let is : v ≡ verdict_by (new e) (line e) = w.verdict.ensures in
+          let list : c.if-is_named.verdicts ≡ set c.loop-p.verdicts c.loop-p.i v = w.verdicts-is in
+          let on : c.if-is_named.i ≡ c.loop-p.i + 1 = w.i-is in (
+            omega (arith, on),
+            rw list (length-set c.loop-p.verdicts c.loop-p.i v ∙ inv.2),
+            rw (list, on) (listing-line name h.0 is (listing e)),
+            rw (list, on) (drop-set-lt (c.loop-p.i + 1) c.loop-p.verdicts c.loop-p.i v (omega arith) ∙ h.2),
+          )
+      | else-is_named w ↦
+          let other : has_name (line e) ≡ false = sym c.is_named.ensures ∙ w.if-is_named.false in
+          let same : c.if-is_named.verdicts ≡ c.loop-p.verdicts = w.verdicts-is in
+          let on : c.if-is_named.i ≡ c.loop-p.i = w.i-is in (
+            omega (arith, on),
+            rw same inv.2,
+            rw (same, on) (listing-comment other (listing e)),
+            rw (same, on) (rw (verdicts-comment (old e) (line e) (rest e) other) at (behind e)),
+          )
     ] in
     (omega (arith, passed.0, inv.0, further e), omega (arith, c.line_end-end.ensures.1), passed.1, passed.2, passed.3)
 

@@ -1,11 +1,11 @@
--- `relations_check::text::put_forms` meets its contract. Assumes nothing.
+-- `relations_check::text_lines::put_forms` meets its contract. Assumes nothing.
 use Prim.Native.Nat.{◌+◌, ◌-◌, ◌≤◌}
 use mathlib.Core.Path.{◌≡◌}
 use lib.ListN.{length, drop}
 use Rattle.metafile.specs.Relations.{split_on}
 use Rattle.relations_check.specs.Judged.{never}
 use Rattle.relations_check.proofs.Lines.{rest_of, Listing}
-use Rattle.relations_check.proofs.text.put_forms.Given as goal
+use Rattle.relations_check.proofs.text_lines.put_forms.Given as goal
 
 abbrev pub invariant-loop-p : goal.invariant-loop-p
 invariant-loop-p l =

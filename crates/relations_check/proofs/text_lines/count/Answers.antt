@@ -1,4 +1,4 @@
--- `relations_check::text::count` meets its contract. Assumes nothing.
+-- `relations_check::text_lines::count` meets its contract. Assumes nothing.
 use Prim.Native.Nat.{ℕ, ◌+◌, ◌-◌, ◌≤◌}
 use mathlib.Core.Path.{◌≡◌, ap, sym, ◌∙◌}
 use mathlib.Core.List.{List, ◌∷◌}
@@ -7,8 +7,8 @@ use lib.ListN.{length, take, drop}
 use Rattle.metafile.specs.Relations.{split_on, verdicts_by}
 use Rattle.relations_check.specs.Judged.{never}
 use Rattle.relations_check.proofs.Lines.{rest_of, rest-start, rest-step, verdicts-line, verdicts-comment, verdicts-end}
-use Rattle.relations_check.proofs.text.count.Goals as goal
-use Rattle.relations_check.proofs.text.count.Goals.{After-line_end-end, then-is_named, else-is_named}
+use Rattle.relations_check.proofs.text_lines.count.Goals as goal
+use Rattle.relations_check.proofs.text_lines.count.Goals.{After-line_end-end, then-is_named, else-is_named}
 
 pub loop-p-init : goal.loop-p-init
 loop-p-init c = (omega arith, omega arith, omega (arith, ap (λ (ls : List (List ℕ)). length (verdicts_by never ls)) (rest-start c.args.text.now)))
@@ -47,12 +47,12 @@ loop-p-preserved c =
     let e = (goal.at.loop-p-preserved c).After-line_end-end in
     let all = rw (next e) at c.loop-p.invariant.2 in
     let counted : (c.if-is_named.n ≤ c.loop-p.n + 1)
-        × (c.if-is_named.n + length (verdicts_by never (rest_of c.args.text.now (c.line_end-end.result + 1))) ≡ length (verdicts_by never (split_on 10 c.args.text.now))) =
+    × (c.if-is_named.n + length (verdicts_by never (rest_of c.args.text.now (c.line_end-end.result + 1))) ≡ length (verdicts_by never (split_on 10 c.args.text.now))) =
     elim c.if-is_named.branch [
-      then-is_named w ↦
-        (omega (arith, w.n-is), omega (arith, w.n-is, rw (verdicts-line never _ _ (sym c.is_named.ensures ∙ w.if-is_named.true)) at all))
-    | else-is_named w ↦
-        (omega (arith, w.n-is), omega (arith, w.n-is, rw (verdicts-comment never _ _ (sym c.is_named.ensures ∙ w.if-is_named.false)) at all))
+      | then-is_named w ↦
+          (omega (arith, w.n-is), omega (arith, w.n-is, rw (verdicts-line never _ _ (sym c.is_named.ensures ∙ w.if-is_named.true)) at all))
+      | else-is_named w ↦
+          (omega (arith, w.n-is), omega (arith, w.n-is, rw (verdicts-comment never _ _ (sym c.is_named.ensures ∙ w.if-is_named.false)) at all))
     ] in
     (omega (arith, counted.0, c.loop-p.invariant.0, further e), omega (arith, c.line_end-end.ensures.1), counted.1)
 

@@ -1,4 +1,4 @@
--- `relations_check::text::judge` meets its contract. Assumes nothing.
+-- `relations_check::text_lines::judge` meets its contract. Assumes nothing.
 use Prim.Native.Nat.{◌+◌, ◌-◌, ◌≤◌}
 use mathlib.Core.Path.{◌≡◌}
 use mathlib.Core.List.{◌++◌}
@@ -6,7 +6,7 @@ use lib.ListN.{length, drop}
 use Rattle.metafile.specs.Relations.{split_on, verdicts_by}
 use Rattle.relations_check.specs.Judged.{never, declared_below}
 use Rattle.relations_check.proofs.Lines.{rest_of, Listing}
-use Rattle.relations_check.proofs.text.judge.Given as goal
+use Rattle.relations_check.proofs.text_lines.judge.Given as goal
 
 -- behind the verdicts the list has what it had
 abbrev pub invariant-loop-p : goal.invariant-loop-p

@@ -1,4 +1,4 @@
--- `relations_check::text::line_end` meets its contract. Assumes nothing.
+-- `relations_check::text_lines::line_end` meets its contract. Assumes nothing.
 use Prim.Native.Nat.{ℕ, ◌+◌, ◌≤◌}
 use mathlib.Core.Path.{◌≡◌, ap}
 use mathlib.Core.List.{[], ◌∷◌, append-nil}
@@ -7,8 +7,8 @@ use lib.ListN.{length, drop, length-drop}
 use Rattle.metafile.specs.Bytes.{find}
 use Rattle.laws.proofs.Lists.{find-fits}
 use Rattle.laws.proofs.Loops.{part-drop}
-use Rattle.relations_check.proofs.text.line_end.Goals as goal
-use Rattle.relations_check.proofs.text.line_end.Goals.{After-find_plain}
+use Rattle.relations_check.proofs.text_lines.line_end.Goals as goal
+use Rattle.relations_check.proofs.text_lines.line_end.Goals.{After-find_plain}
 
 found : (c : After-find_plain) → c.find_plain.result ≡ find (10 ∷ []) (drop c.args.p c.args.text.now)
 found c =

@@ -1,4 +1,4 @@
--- `relations_check::text::put_forms` meets its contract. Assumes nothing.
+-- `relations_check::text_lines::put_forms` meets its contract. Assumes nothing.
 use Prim.Native.Nat.{ℕ, ◌+◌, ◌-◌, ◌≤◌, ◌<◌}
 use mathlib.Core.Path.{◌≡◌, refl, sym, ◌∙◌}
 use mathlib.Core.List.{List, ◌∷◌}
@@ -8,8 +8,8 @@ use Rattle.metafile.specs.Relations.{split_on}
 use Rattle.relation_line.specs.Form.{form_of}
 use Rattle.relations_check.specs.Judged.{never}
 use Rattle.relations_check.proofs.Lines.{rest_of, rest-start, rest-step, rest_end, form-other, form-named, form-never, drop-next, Listing, listing_none, listing-comment, listing-line, listing-room, listing-end}
-use Rattle.relations_check.proofs.text.put_forms.Goals as goal
-use Rattle.relations_check.proofs.text.put_forms.Goals.{After-line_end-end, then-form-ne0, else-form-ne0}
+use Rattle.relations_check.proofs.text_lines.put_forms.Goals as goal
+use Rattle.relations_check.proofs.text_lines.put_forms.Goals.{After-line_end-end, then-form-ne0, else-form-ne0}
 
 pub loop-p-init : goal.loop-p-init
 loop-p-init c = (omega arith, omega arith, refl, rw (rest-start c.args.text.now) (listing_none _), refl)
@@ -67,25 +67,25 @@ loop-p-preserved c =
     let inv = c.loop-p.invariant in
     -- the list behind the line
     let passed : (c.if-form-ne0.i ≤ c.loop-p.i + 1) × (length c.if-form-ne0.verdicts ≡ length c.args.verdicts.now)
-        × Listing never (split_on 10 c.args.text.now) (rest_of c.args.text.now (c.line_end-end.result + 1)) c.if-form-ne0.i c.if-form-ne0.verdicts
-        × (drop c.if-form-ne0.i c.if-form-ne0.verdicts ≡ drop c.if-form-ne0.i c.args.verdicts.now) =
+    × Listing never (split_on 10 c.args.text.now) (rest_of c.args.text.now (c.line_end-end.result + 1)) c.if-form-ne0.i c.if-form-ne0.verdicts
+    × (drop c.if-form-ne0.i c.if-form-ne0.verdicts ≡ drop c.if-form-ne0.i c.args.verdicts.now) =
     elim c.if-form-ne0.branch [
-      then-form-ne0 w ↦
-        let v : ℕ = c.form-form.result in
-        let some : form_of (line e) ≡ 0 → ⊥ = λ q. w.if-form-ne0.true (c.form-form.ensures ∙ q) in
-        let new : c.if-form-ne0.verdicts ≡ set c.loop-p.verdicts c.loop-p.i v = w.verdicts-is in
-        let on : c.if-form-ne0.i ≡ c.loop-p.i + 1 = w.i-is in (
-          omega (arith, on),
-          rw new (length-set c.loop-p.verdicts c.loop-p.i v ∙ inv.2),
-          rw (new, on) (listing-line (form-named (line e) some) (has_room e some) (c.form-form.ensures ∙ form-never (line e)) (listing e)),
-          rw (new, on) (drop-next c.loop-p.verdicts c.args.verdicts.now c.loop-p.i v inv.4),
-        )
-    | else-form-ne0 w ↦
-        let same : c.if-form-ne0.verdicts ≡ c.loop-p.verdicts = w.verdicts-is in
-        let on : c.if-form-ne0.i ≡ c.loop-p.i = w.i-is in
-        let none : c.form-form.result ≡ 0 = w.if-form-ne0.false in
-        let other = form-other (line e) (sym c.form-form.ensures ∙ none) in
-        (omega (arith, on), rw same inv.2, rw (same, on) (listing-comment other (listing e)), rw (same, on) inv.4)
+      | then-form-ne0 w ↦
+          let v : ℕ = c.form-form.result in
+          let some : form_of (line e) ≡ 0 → ⊥ = λ q. w.if-form-ne0.true (c.form-form.ensures ∙ q) in
+          let new : c.if-form-ne0.verdicts ≡ set c.loop-p.verdicts c.loop-p.i v = w.verdicts-is in
+          let on : c.if-form-ne0.i ≡ c.loop-p.i + 1 = w.i-is in (
+            omega (arith, on),
+            rw new (length-set c.loop-p.verdicts c.loop-p.i v ∙ inv.2),
+            rw (new, on) (listing-line (form-named (line e) some) (has_room e some) (c.form-form.ensures ∙ form-never (line e)) (listing e)),
+            rw (new, on) (drop-next c.loop-p.verdicts c.args.verdicts.now c.loop-p.i v inv.4),
+          )
+      | else-form-ne0 w ↦
+          let same : c.if-form-ne0.verdicts ≡ c.loop-p.verdicts = w.verdicts-is in
+          let on : c.if-form-ne0.i ≡ c.loop-p.i = w.i-is in
+          let none : c.form-form.result ≡ 0 = w.if-form-ne0.false in
+          let other = form-other (line e) (sym c.form-form.ensures ∙ none) in
+          (omega (arith, on), rw same inv.2, rw (same, on) (listing-comment other (listing e)), rw (same, on) inv.4)
     ] in
     (omega (arith, passed.0, inv.0, further e), omega (arith, c.line_end-end.ensures.1), passed.1, passed.2, passed.3)
 

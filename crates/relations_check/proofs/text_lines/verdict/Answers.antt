@@ -1,4 +1,4 @@
--- `relations_check::text::verdict` meets its contract. Assumes nothing.
+-- `relations_check::text_lines::verdict` meets its contract. Assumes nothing.
 use Prim.Native.Nat.{ℕ, ◌+◌}
 use mathlib.Core.Bool.{Bool, true, false}
 use mathlib.Core.Path.{◌≡◌}
@@ -8,8 +8,8 @@ use Rattle.relation_line.specs.Form.{form_of}
 use Rattle.relations_check.specs.Judged.{declared_below}
 use Rattle.relations_check.proofs.Lines.{named-form}
 use Rattle.relations_check.proofs.Declared.{below-kept, verdict-kept, verdict-form, verdict-now}
-use Rattle.relations_check.proofs.text.verdict.Goals as goal
-use Rattle.relations_check.proofs.text.verdict.Goals.{Start}
+use Rattle.relations_check.proofs.text_lines.verdict.Goals as goal
+use Rattle.relations_check.proofs.text_lines.verdict.Goals.{Start}
 
 abbrev before : Start → List (List ℕ) → Bool
 before k = declared_below k.args.file.now k.args.w.from
