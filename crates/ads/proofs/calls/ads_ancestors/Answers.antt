@@ -9,15 +9,13 @@ unfolding ancestors_answer
 returns-in-Reached c =
     let call = c.ancestors-answer in
     let after = call.new.list in
-    let values = c.answer-1.given.0 in
-    let asked = ancestry-done after _ values.0 values.1.0 (ap (λ a. outcome (ancestors_answer a) after) (sym c.in-Reached.is) ∙ call.ensures) in record { answer = asked.0; alone = asked.1 }
+    let asked = ancestry-done after _ c.in-Reached.count c.in-Reached.missing (ap (λ a. outcome (ancestors_answer a) after) (sym c.in-Reached.is) ∙ call.ensures) in record { answer = asked.0; alone = asked.1 }
 
 pub returns-in-Refused : goal.returns-in-Refused
 unfolding ancestors_answer
 returns-in-Refused c =
     let call = c.ancestors-answer in
     let after = call.new.list in
-    let n = c.in
-    let asked = -Refused.number in
+    let n = c.in-Refused.number in
     let e = ap (λ a. outcome (ancestors_answer a) after) (sym c.in-Refused.is) ∙ call.ensures in
-    ancestry-refused after _ n (ancestors-numbered _ _ _ n after e) e in record { answer = asked.0; alone = asked.1 }
+    let asked = ancestry-refused after _ n (ancestors-numbered _ _ _ n after e) e in record { answer = asked.0; alone = asked.1 }

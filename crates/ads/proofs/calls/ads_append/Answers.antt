@@ -17,7 +17,6 @@ unfolding append_answer
 returns-in-Refused c =
     let call = c.append-answer in
     let after = call.new.buffer in
-    let n = c.in
-    let asked = -Refused.number in
+    let n = c.in-Refused.number in
     let e = ap (λ a. outcome (append_answer a) after) (sym c.in-Refused.is) ∙ call.ensures in
-    ends-refused after _ n (append-numbered _ _ _ n after e) e in record { answer = asked.0; alone = asked.1 }
+    let asked = ends-refused after _ n (append-numbered _ _ _ n after e) e in record { answer = asked.0; alone = asked.1 }

@@ -17,7 +17,6 @@ unfolding pack_answer
 returns-in-Refused c =
     let call = c.pack-answer in
     let after = call.new.buffer in
-    let n = c.in
-    let asked = -Refused.number in
+    let n = c.in-Refused.number in
     let e = ap (λ a. outcome (pack_answer a) after) (sym c.in-Refused.is) ∙ call.ensures in
-    written-refused after _ n (pack-numbered _ _ n after e) e in record { answer = asked.0; alone = asked.1 }
+    let asked = written-refused after _ n (pack-numbered _ _ n after e) e in record { answer = asked.0; alone = asked.1 }

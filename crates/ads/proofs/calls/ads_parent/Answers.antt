@@ -21,7 +21,6 @@ pub returns-in-Refused : goal.returns-in-Refused
 unfolding parent_answer
 returns-in-Refused c =
     let told = c in
-    let n = told.in
-    let asked = -Refused.number in
+    let n = told.in-Refused.number in
     let e = ap parent_answer (sym told.in-Refused.is) ∙ told.parent-answer.ensures in
-    parent-refused _ c.no_parent-in-Refused.result n c.no_parent-in-Refused.ensures (parent-numbered _ _ _ n e) e in record { answer = asked.0; alone = asked.1 }
+    let asked = parent-refused _ c.no_parent-in-Refused.result n c.no_parent-in-Refused.ensures (parent-numbered _ _ _ n e) e in record { answer = asked.0; alone = asked.1 }

@@ -10,16 +10,14 @@ unfolding price_answer
 returns-in-Priced c =
     let call = c.price-answer in
     let after = call.new.buffer in
-    let parts = c.in
-    let asked = -Priced.parts in
-    priced-done after _ parts.length parts.header parts.chunks parts.unread (ap (λ a. outcome (price_answer a) after) (sym c.in-Priced.is) ∙ call.ensures) in record { answer = asked.0; alone = asked.1 }
+    let parts = c.in-Priced.parts in
+    let asked = priced-done after _ parts.length parts.header parts.chunks parts.unread (ap (λ a. outcome (price_answer a) after) (sym c.in-Priced.is) ∙ call.ensures) in record { answer = asked.0; alone = asked.1 }
 
 pub returns-in-Refused : goal.returns-in-Refused
 unfolding price_answer
 returns-in-Refused c =
     let call = c.price-answer in
     let after = call.new.buffer in
-    let n = c.in
-    let asked = -Refused.number in
+    let n = c.in-Refused.number in
     let e = ap (λ a. outcome (price_answer a) after) (sym c.in-Refused.is) ∙ call.ensures in
-    priced-refused after _ n (price-numbered _ _ _ _ n after e) e in record { answer = asked.0; alone = asked.1 }
+    let asked = priced-refused after _ n (price-numbered _ _ _ _ n after e) e in record { answer = asked.0; alone = asked.1 }

@@ -16,7 +16,6 @@ unfolding relations_check_answer
 returns-in-Refused c =
     let call = c.check-answer in
     let after = call.new.verdicts in
-    let n = c.in
-    let asked = -Refused.number in
+    let n = c.in-Refused.number in
     let e = ap (λ a. outcome (relations_check_answer a) after) (sym c.in-Refused.is) ∙ call.ensures in
-    counted-refused after _ n (relations-check-numbered _ _ _ n after e) e in record { answer = asked.0; alone = asked.1 }
+    let asked = counted-refused after _ n (relations-check-numbered _ _ _ n after e) e in record { answer = asked.0; alone = asked.1 }

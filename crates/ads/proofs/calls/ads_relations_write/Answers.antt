@@ -16,7 +16,6 @@ unfolding relations_write_answer
 returns-in-Refused c =
     let call = c.write-answer in
     let after = call.new.buffer in
-    let n = c.in
-    let asked = -Refused.number in
+    let n = c.in-Refused.number in
     let e = ap (λ a. outcome (relations_write_answer a) after) (sym c.in-Refused.is) ∙ call.ensures in
-    written-refused after _ n (relations-write-numbered _ _ n after e) e in record { answer = asked.0; alone = asked.1 }
+    let asked = written-refused after _ n (relations-write-numbered _ _ n after e) e in record { answer = asked.0; alone = asked.1 }
