@@ -4,7 +4,7 @@
 --     Counts                  how many blocks a file has
 --     Faults                  the first wrong block, and its first fault
 --     Answers                 the calls, with room and without
-use Rattle.std.proofs.Common.{◌≡◌, ℕ, ◌+◌, List, [], ◌∷◌, ◌++◌, drop, replicate, refl}
+use Rattle.std.proofs.Common.{◌≡◌, ℕ, List, [], ◌∷◌, ◌++◌, drop, replicate, refl}
 use Rattle.metafile.proofs.Computed.{computed}
 use Rattle.metafile.specs.Bytes.{bytes}
 use Rattle.metafile.specs.Answers.{result, refused, outcome}

@@ -5,7 +5,7 @@
 --     use-read data-read                 use and data, as code finds them
 -- Assumes nothing.
 use Rattle.std.proofs.Common.{◌≡◌, ℕ, ◌+◌, ◌-◌, ◌*◌, ◌<◌, ◌≤◌, true, false, not, eqb, List, [], ◌∷◌, length, take, drop, sym, ap, ◌∙◌, arith, length-append, length-drop, length-take, ne_eqb}
-use Rattle.metafile.specs.Bytes.{part, is_empty, ◌⊳◌, require}
+use Rattle.metafile.specs.Bytes.{part, is_empty, require}
 use Rattle.metafile.specs.Below.{join_below, fault_below}
 use Rattle.laws.proofs.First.{untrue, ⊳-left, ⊳-right, require-true}
 use Rattle.laws.proofs.Below.{join_more, join-long, sum-part, fault-each}

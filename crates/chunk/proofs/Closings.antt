@@ -8,10 +8,10 @@ use mathlib.Core.Path.{◌≡◌, refl, ◌∙◌}
 use mathlib.Core.List.{List, [], ◌∷◌, ◌++◌}
 use native.Mathlib.Omega.{arith}
 use lib.Dec.{eqb}
-use lib.ListN.{length, take, drop, length-drop}
-use Rattle.metafile.specs.Bytes.{part, ◌⊳◌, sum}
+use lib.ListN.{length, take, drop}
+use Rattle.metafile.specs.Bytes.{part, sum}
 use Rattle.metafile.specs.Fields.{count_value}
-use Rattle.metafile.specs.Lines.{fixed, lines_of, field_width, fault, size, run, table}
+use Rattle.metafile.specs.Lines.{fixed, lines_of, size, run, table}
 use Rattle.metafile.specs.Closing.{summed, unsummed, closing, sum_place, sum_good}
 use Rattle.table.specs.Codes.{lines_from}
 use Rattle.laws.proofs.Distances.{lines, size-closing}

@@ -13,12 +13,11 @@ use mathlib.Core.List.{List}
 use native.Mathlib.Omega.{arith}
 use lib.ListN.{length, take, drop, length-drop}
 use lib.Seq.{drop-drop}
-use lib.Dec.{eqb}
 use lib.IntN.{ℤ, pos}
-use Rattle.metafile.specs.Bytes.{part, choose, is_zero, same, sum}
+use Rattle.metafile.specs.Bytes.{part, choose, is_zero, same}
 use Rattle.metafile.specs.Fields.{count_value, offset_value}
 use Rattle.metafile.specs.Lines.{run}
-use Rattle.metafile.specs.Closing.{closing, closing_end, closing_serial, sum_place, sum_good}
+use Rattle.metafile.specs.Closing.{closing, closing_end, closing_serial, sum_good}
 use Rattle.metafile.specs.Chunk.{head, synch_type, standard, offset_bytes, dependencies, is_multi, header_bytes, chunk_header_fault, contents_fault, contents_from, contents_long, contents_place, contents_bytes, closing_place, chunk_end, serial_of, chunk_fault, content_count, ending_of, chunk_ending, offset_under, row_at}
 use Rattle.laws.proofs.First.{cases, untrue, is_zero-zero, is_zero-is, choose-go, choose-stop}
 use Rattle.laws.proofs.Loops.{part-drop}

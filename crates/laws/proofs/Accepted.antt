@@ -4,15 +4,14 @@
 --     limit-over limit-within limit-under limit-small   a length over the limit; one within it, before others, alone; by the test
 --     accepted-..    a call that writes answers a result only where no test holds, and then what was defined
 -- Assumes nothing.
-use Prim.Native.Nat.{ℕ, zero, suc, ◌≤◌, ◌<◌}
-use mathlib.Core.Bool.{Bool, true, false, cond, ◌||◌}
-use mathlib.Core.Path.{◌≡◌, refl, sym, ap, ◌∙◌}
+use Prim.Native.Nat.{ℕ, suc, ◌≤◌, ◌<◌}
+use mathlib.Core.Bool.{Bool, true, false}
+use mathlib.Core.Path.{◌≡◌, refl}
 use mathlib.Core.List.{List, [], ◌∷◌}
 use native.Mathlib.Omega.{arith}
 use lib.Dec.{ltb}
 use borrow.Author.Tests.{ltb-false, lt-ltb, le-ltb}
-use Rattle.metafile.specs.Bytes.{choose}
-use Rattle.metafile.specs.Answers.{Answer, result, refused, Test, refuse, first_refusal, limit, over_limit, Outcome, outcome, unless_refused}
+use Rattle.metafile.specs.Answers.{result, refused, Test, refuse, first_refusal, limit, over_limit, Outcome, unless_refused}
 use Rattle.laws.proofs.First.{cases, or-false, choose-go, choose-stop}
 
 pub refusal-none : (n : ℕ) (b : Bool) (ts : List Test) → first_refusal (refuse (suc n) b ∷ ts) ≡ 0 → (b ≡ false) × (first_refusal ts ≡ 0)

@@ -3,29 +3,27 @@
 --     begun-length   319 and twice the mark
 --     begun-reading  the reading of a begun file, into any number of rows
 -- Assumes nothing.
-use Prim.Native.Nat.{ℕ, zero, suc, ◌+◌, ◌*◌, ◌^◌, ◌≤◌, ◌<◌}
-use mathlib.Core.Bool.{Bool, true, false, cond, not, ◌&&◌, ◌||◌}
+use Prim.Native.Nat.{ℕ, zero, suc, ◌+◌, ◌*◌, ◌≤◌}
+use mathlib.Core.Bool.{Bool, true, false, not, ◌&&◌, ◌||◌}
 use mathlib.Core.Path.{◌≡◌, refl, sym, ap, ◌∙◌}
 use mathlib.Core.List.{List, [], ◌∷◌, ◌++◌, append_assoc, append-nil, append_cancel_left}
 use native.Mathlib.Omega.{arith}
-use native.Mathlib.Nat.{le_refl}
-use lib.Dec.{leb, ltb, eqb}
+use lib.Dec.{ltb}
 use lib.ListN.{length, take, drop, length-append}
 use lib.Seq.{take_at, drop_at, drop-length, take-append_seam, take-take, take-add, drop-drop}
 use borrow.Author.Tests.{ltb-false, not-false, not-true}
-use Rattle.metafile.specs.Bytes.{bytes, part, ◌⊳◌, require, is_zero, is_empty, same, member, starts}
-use Rattle.metafile.specs.Fields.{digits_of, count_value}
-use Rattle.metafile.specs.Lines.{LLC, NUL, Kind, strategy, Field, fixed, value, lf, lines_of, format_id, separator_strategy, width, field_width, kind_fault, fault, word_fault, field_fault, size, run, first_of, others_of, put, left, write, formed}
-use Rattle.metafile.specs.Closing.{Integrity, integrity_lines, integrity_values, closing, closing_end, sum_good, summed, summed_bytes, closing_bytes}
+use Rattle.metafile.specs.Bytes.{part, is_zero, is_empty, same, member, starts}
+use Rattle.metafile.specs.Fields.{digits_of}
+use Rattle.metafile.specs.Lines.{LLC, NUL, strategy, Field, fixed, value, lf, lines_of, format_id, separator_strategy, kind_fault, fault, word_fault, field_fault, run, first_of, others_of, put, left, write, formed}
+use Rattle.metafile.specs.Closing.{integrity_lines, integrity_values, closing, closing_end, summed, summed_bytes, closing_bytes}
 use Rattle.metafile.specs.Header.{title, is_llc, mark_length, mark_of, title_fault, mark_fault, header_fault, header_end, header_good}
 use Rattle.metafile.specs.Multi.{mini_label}
-use Rattle.metafile.specs.Reading.{Reading, Rows, halt, with_header, read_rows, read_file}
-use Rattle.metafile.specs.Answers.{Answer, result, Test, first_refusal, over_limit, Outcome, placed}
+use Rattle.metafile.specs.Reading.{halt, with_header, read_rows, read_file}
+use Rattle.metafile.specs.Answers.{result, first_refusal, Outcome, placed}
 use Rattle.metafile.specs.Begin.{BeginGiven, title_values, title_bytes, begun_file, begin_formed, begin_tests, begin}
-use Rattle.laws.proofs.First.{test, untrue, and_both, both-and, or-true, or_left, or_right, ⊳-left, ⊳-both, require-met, require-true, choose-go}
-use Rattle.laws.proofs.Lists.{same-eq, same_refl, same_not}
+use Rattle.laws.proofs.First.{untrue, and_both, or-true, or_left, or_right, ⊳-left, ⊳-both, require-met, require-true, choose-go}
 use Rattle.laws.proofs.Digits.{count_value-digits_of, length-digits_of}
-use Rattle.laws.proofs.Table.{field-long, field-own, field-enough, formed-width, formed-fault, formed-split, write-size, write-run, write-at, lefts}
+use Rattle.laws.proofs.Table.{field-long, field-own, formed-width, formed-fault, formed-split, write-size, write-run, write-at, lefts}
 use Rattle.laws.proofs.Loops.{placed-start}
 use Rattle.laws.proofs.Distances.{lines, size-title}
 use Rattle.laws.proofs.Closed.{closed-length, closed_run, closed-good}

@@ -18,7 +18,6 @@ use native.Mathlib.Numerals.{add-one}
 use lib.Dec.{eqb}
 use lib.ListN.{length, length-append}
 use borrow.Author.Tests.{eqb-true, eqb-false}
-use Rattle.metafile.specs.Bytes.{◌⊳◌}
 use Rattle.metafile.specs.Below.{any_below, join_below, sum_below, fault_below}
 use Rattle.laws.proofs.First.{test, untrue, or-true, or_left, or_right, ⊳-left, ⊳-right, ⊳-both, ⊳-stop, ⊳-go}
 

@@ -2,21 +2,20 @@
 --     fixed-formed      a fixed text needs no value
 --     closed-length closed_run closed-good closed-serial, closed-..: the closing behind `before`, with t behind it
 -- Assumes nothing.
-use Prim.Native.Nat.{ℕ, zero, suc, ◌+◌, ◌^◌, ◌≤◌, ◌<◌}
-use mathlib.Core.Bool.{Bool, true, false, cond, not, ◌&&◌, ◌||◌}
-use mathlib.Core.Path.{◌≡◌, refl, sym, ap, ◌∙◌}
-use mathlib.Core.List.{List, [], ◌∷◌, ◌++◌, append_assoc, append-nil}
+use Prim.Native.Nat.{ℕ, ◌+◌, ◌^◌, ◌≤◌, ◌<◌}
+use mathlib.Core.Bool.{true}
+use mathlib.Core.Path.{◌≡◌, refl, sym, ◌∙◌}
+use mathlib.Core.List.{List, [], ◌∷◌, ◌++◌, append_assoc}
 use native.Mathlib.Omega.{arith}
 use native.Mathlib.Nat.{le_refl}
-use lib.Dec.{leb, eqb}
-use lib.ListN.{length, take, drop, length-append}
-use lib.Seq.{take_all, take_at, drop_at, drop-drop, take-length, drop-append-add, drop-append_seam}
+use lib.ListN.{length, take, length-append}
+use lib.Seq.{take_all, take_at, drop_at, take-length, drop-append-add}
 use borrow.Author.Tests.{eq-eqb, le-leb}
-use Rattle.metafile.specs.Bytes.{bytes, part, require, same, sum}
-use Rattle.metafile.specs.Fields.{digits_of, is_count, count_value, padded}
-use Rattle.metafile.specs.Lines.{Kind, count, text, date, serial, Field, fixed, value, Line, lf, opened, lines_of, width, field_width, kind_fault, fault, fixed_fault, count_fault, size, run, first_of, others_of, put, left, write, formed, chunk_serial, recording_date, recording_agent, writing_date, writing_agent, checksum}
-use Rattle.metafile.specs.Closing.{integrity_lines, summed, unsummed, closing, sum_place, closing_end, closing_serial, sum_good, Integrity, integrity_values, summed_bytes, closing_bytes}
-use Rattle.laws.proofs.First.{both-and, and_both, ⊳-both, require-met}
+use Rattle.metafile.specs.Bytes.{part, require, same, sum}
+use Rattle.metafile.specs.Fields.{digits_of, padded}
+use Rattle.metafile.specs.Lines.{count, text, date, serial, Field, fixed, value, lf, lines_of, width, field_width, kind_fault, fault, fixed_fault, count_fault, size, run, first_of, others_of, put, left, write, formed, chunk_serial, recording_date, recording_agent, writing_date, writing_agent, checksum}
+use Rattle.metafile.specs.Closing.{integrity_lines, summed, unsummed, closing, sum_place, closing_serial, sum_good, Integrity, integrity_values, summed_bytes, closing_bytes}
+use Rattle.laws.proofs.First.{⊳-both, require-met}
 use Rattle.laws.proofs.Lists.{same_refl}
 use Rattle.laws.proofs.Digits.{count_value-digits_of, length-digits_of, count-digits_of, sum_below}
 use Rattle.laws.proofs.Table.{field-long, run-split, write-size, write-run, write-at, formed-split, lefts}

@@ -4,15 +4,15 @@
 --     padded-form padded-value   spaces and digits are in form; the value is that of the digits
 --     Padded count-padded        nothing else is in form
 -- Assumes nothing.
-use Prim.Native.Nat.{ℕ, zero, suc, ◌+◌, ◌-◌, ◌*◌, ◌/◌, ◌%◌, ◌^◌, ◌≤◌, ◌<◌}
-use mathlib.Core.Bool.{Bool, true, false, cond, ◌&&◌}
-use mathlib.Core.Path.{◌≡◌, refl, sym, ap, ◌∙◌}
+use Prim.Native.Nat.{ℕ, zero, suc, ◌+◌, ◌-◌, ◌*◌, ◌/◌, ◌%◌, ◌^◌, ◌<◌}
+use mathlib.Core.Bool.{true, false}
+use mathlib.Core.Path.{◌≡◌, refl, ap, ◌∙◌}
 use mathlib.Core.List.{List, [], ◌∷◌, ◌++◌}
 use native.Mathlib.Omega.{arith}
 use lib.Dec.{leb, eqb}
 use lib.ListN.{length, replicate, length-append}
 use borrow.Author.Tests.{le-leb, leb-true, eqb-true, ne_eqb}
-use Rattle.metafile.specs.Bytes.{all, total, sum}
+use Rattle.metafile.specs.Bytes.{all, sum}
 use Rattle.metafile.specs.Fields.{is_digit, number, number_from, digits_of, is_space, take_while, drop_while, is_count, count_value}
 use Rattle.laws.proofs.First.{test, and_both, both-and}
 use Rattle.laws.proofs.Lists.{all_append}

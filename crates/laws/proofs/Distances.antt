@@ -2,16 +2,14 @@
 -- numbers in the definitions are those that the table gives. Each length is measured from just after its last digit,
 -- its own LF included. Assumes nothing.
 use Prim.Native.Nat.{ℕ, zero, suc, ◌+◌, ◌*◌}
-use mathlib.Core.Bool.{true}
 use mathlib.Core.Path.{◌≡◌, refl}
 use mathlib.Core.List.{List, [], ◌∷◌, ◌++◌}
 use native.Mathlib.Omega.{arith}
-use lib.ListN.{length, take, drop, get_or}
-use Rattle.metafile.specs.Bytes.{bytes}
-use Rattle.metafile.specs.Lines.{Kind, text, free, i12, i4, Field, fixed, value, Line, lf, opened, lines_of, width, field_width, size, chunk_header_length, sub_format_id, generic_type, time_synch_type, time_standard, time_offset, event_synch, time_and_event, dependency_length, dependency_count, dependency_serial, dependency_sub_format, content_length, multi_header_length, type_count, sub_type_length, short_id, chunk_serial, recording_date, recording_agent, writing_date, writing_agent, checksum, format_id, separator_strategy}
+use lib.ListN.{length, take, get_or}
+use Rattle.metafile.specs.Lines.{text, i12, i4, fixed, value, Line, lf, opened, lines_of, width, field_width, size, chunk_header_length, sub_format_id, generic_type, time_synch_type, time_standard, time_offset, event_synch, time_and_event, dependency_length, dependency_count, dependency_serial, dependency_sub_format, content_length, multi_header_length, type_count, sub_type_length, short_id, chunk_serial, recording_date, recording_agent, writing_date, writing_agent, checksum, format_id, separator_strategy}
 use Rattle.metafile.specs.Closing.{integrity_lines, summed, unsummed, closing}
 use Rattle.metafile.specs.Header.{title}
-use Rattle.metafile.specs.Multi.{multi_head, multi_length_for, mini_label}
+use Rattle.metafile.specs.Multi.{multi_length_for, mini_label}
 use Rattle.metafile.specs.Chunk.{given_lines, head_lines, head, dependency_fields, dependency_length_for, header_length_for, header_bytes_for}
 use Rattle.laws.proofs.Table.{size-split}
 

@@ -5,12 +5,12 @@
 --     require-true ..     a required test
 -- Assumes nothing.
 use Prim.Native.Nat.{ℕ, zero, suc}
-use mathlib.Core.Bool.{Bool, true, false, cond, not, ◌&&◌, ◌||◌}
-use mathlib.Core.Path.{◌≡◌, refl, sym, ◌∙◌}
+use mathlib.Core.Bool.{Bool, true, false, ◌&&◌, ◌||◌}
+use mathlib.Core.Path.{◌≡◌, refl, sym}
 use native.Mathlib.Omega.{arith}
 use lib.Dec.{eqb}
 use borrow.Author.Tests.{ne_eqb}
-use Rattle.metafile.specs.Bytes.{◌⊳◌, require, choose, is_zero, non_zero}
+use Rattle.metafile.specs.Bytes.{◌⊳◌, require, choose, is_zero}
 
 pub test : {A : Type 0} (b : Bool) → (b ≡ true → A) → (b ≡ false → A) → A
 test true f g = f refl

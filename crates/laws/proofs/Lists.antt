@@ -4,16 +4,16 @@
 --     length-padded                padding
 --     starts-local starts-fits find-local find-least find-fits   the first place of a mark
 -- Assumes nothing.
-use Prim.Native.Nat.{ℕ, zero, suc, ◌+◌, ◌-◌, ◌≤◌, ◌<◌}
-use mathlib.Core.Bool.{Bool, true, false, cond, not, ◌&&◌, ◌||◌}
+use Prim.Native.Nat.{ℕ, zero, suc, ◌+◌, ◌≤◌, ◌<◌}
+use mathlib.Core.Bool.{Bool, true, false, ◌&&◌}
 use mathlib.Core.Path.{◌≡◌, refl, sym, ap, ◌∙◌}
-use mathlib.Core.List.{List, [], ◌∷◌, ◌++◌, append_assoc, append-nil}
+use mathlib.Core.List.{List, [], ◌∷◌, ◌++◌}
 use native.Mathlib.Omega.{arith}
-use lib.Dec.{leb, eqb}
-use lib.ListN.{length, take, drop, get_or, replicate, length-append, length-take, length-drop, length-replicate}
+use lib.Dec.{eqb}
+use lib.ListN.{length, take, drop, get_or, length-append, length-take, length-drop, length-replicate}
 use lib.Seq.{take_all, take-append-le, drop-append-le}
 use borrow.Author.Tests.{eqb-true, eq-eqb}
-use Rattle.metafile.specs.Bytes.{part, all, non_zero, same, member, starts, find}
+use Rattle.metafile.specs.Bytes.{part, all, same, member, starts, find}
 use Rattle.metafile.specs.Fields.{padded}
 use Rattle.laws.proofs.First.{test, untrue, and_both, both-and, or-true}
 

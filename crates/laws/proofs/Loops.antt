@@ -5,17 +5,15 @@
 --     put-none put-more put-all   bytes put one by one at a place of a buffer
 --     placed-length placed-placed placed-start placed-over   bytes put at a place, at the start
 -- Assumes nothing.
-use Prim.Native.Nat.{ℕ, zero, suc, ◌+◌, ◌-◌, ◌≤◌, ◌<◌}
-use mathlib.Core.Bool.{Bool, true, false}
-use mathlib.Core.Path.{◌≡◌, refl, sym, ap, ◌∙◌}
+use Prim.Native.Nat.{ℕ, ◌+◌, ◌-◌, ◌≤◌, ◌<◌}
+use mathlib.Core.Path.{◌≡◌, sym, ◌∙◌}
 use mathlib.Core.List.{List, [], ◌∷◌, ◌++◌, append_assoc, append-nil}
 use native.Mathlib.Omega.{arith}
 use native.Mathlib.Nat.{le_of_eq}
 use native.Mathlib.Numerals.{add-one}
-use lib.Dec.{leb}
 use lib.ListN.{length, take, drop, get_or, set, length-append, length-take, length-drop, take-append-drop, drop_of_length-le}
-use lib.Seq.{take-suc, take_all, take-length, get_or-take, take_at, drop_at, drop-drop, take-append_seam, drop-append-add, take-append-le, set_split, length-take-le, take-add}
-use Rattle.metafile.specs.Bytes.{part, same, require}
+use lib.Seq.{take-suc, take_all, take-length, get_or-take, take_at, drop_at, drop-drop, take-append_seam, set_split, length-take-le}
+use Rattle.metafile.specs.Bytes.{same}
 use Rattle.metafile.specs.Lines.{fixed, fixed_fault, fault}
 use Rattle.metafile.specs.Answers.{placed}
 use Rattle.laws.proofs.First.{test, require-met, require-unmet}

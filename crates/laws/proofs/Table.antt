@@ -6,9 +6,9 @@
 --     run-clear   a run of strict fields that passes has no zero byte; run-split, run_at: its parts
 --     write-size, write-run, write-at   what the writer puts fills its widths, passes the reader, and stands at its distance
 -- Assumes nothing.
-use Prim.Native.Nat.{ℕ, zero, suc, ◌+◌, ◌-◌, ◌≤◌, ◌<◌}
-use mathlib.Core.Bool.{Bool, true, false, cond, not, ◌&&◌, ◌||◌}
-use mathlib.Core.Path.{◌≡◌, refl, sym, ap, ◌∙◌}
+use Prim.Native.Nat.{ℕ, ◌+◌, ◌≤◌, ◌<◌}
+use mathlib.Core.Bool.{Bool, true, false, ◌&&◌}
+use mathlib.Core.Path.{◌≡◌, refl, sym, ◌∙◌}
 use mathlib.Core.List.{List, [], ◌∷◌, ◌++◌, append_assoc}
 use native.Mathlib.Omega.{arith}
 use native.Mathlib.Nat.{le_of_eq}
@@ -16,10 +16,10 @@ use lib.Dec.{leb, eqb}
 use lib.ListN.{length, take, drop, length-append, length-drop}
 use lib.Seq.{take-append-le, drop-append-le, take_at, drop_at, drop-drop, take-add, take-take}
 use borrow.Author.Tests.{leb-true, le-leb, lt-leb, eqb-true}
-use Rattle.metafile.specs.Bytes.{part, ◌⊳◌, require, all, is_zero, non_zero, same, member}
-use Rattle.metafile.specs.Fields.{is_count, count_value, is_text, is_offset}
+use Rattle.metafile.specs.Bytes.{part, ◌⊳◌, all, is_zero, non_zero}
+use Rattle.metafile.specs.Fields.{is_count, count_value}
 use Rattle.metafile.specs.Lines.{Kind, count, text, date, offset, serial, word, strategy, stamp, free, LLC, NUL, Field, fixed, value, field_fault, fixed_fault, count_fault, text_fault, date_fault, offset_fault, serial_fault, word_fault, stamp_fault, free_fault, width, kind_fault, field_width, fault, size, run, put, left, write, formed}
-use Rattle.laws.proofs.First.{test, untrue, and_both, both-and, ⊳-left, ⊳-right, ⊳-both, ⊳-assoc, require-true}
+use Rattle.laws.proofs.First.{test, untrue, and_both, ⊳-left, ⊳-right, ⊳-both, ⊳-assoc, require-true}
 use Rattle.laws.proofs.Lists.{same-eq, all_append, all_of, member-all}
 use Rattle.laws.proofs.Zero.{text-clear, count-clear, date-clear, offset-clear, serial-clear}
 use Rattle.laws.proofs.Dates.{date-good, serial-good}

@@ -13,8 +13,8 @@ use mathlib.Core.List.{List, [], ◌∷◌, ◌++◌, append_assoc, append-nil}
 use native.Mathlib.Omega.{arith}
 use native.Mathlib.Nat.{le_of_eq}
 use lib.Dec.{eqb}
-use lib.ListN.{length, take, drop, set, length-append, length-take, length-drop, take-append-drop, drop_of_length-le}
-use lib.Seq.{length-take-le, take-length, drop_at, drop-drop, drop-append-le, take-append-add, take-append_seam, take-set-le, set_split}
+use lib.ListN.{length, take, drop, set, length-append, length-take, length-drop, take-append-drop}
+use lib.Seq.{length-take-le, drop_at, drop-drop, drop-append-le, take-append-add, take-append_seam, take-set-le, set_split}
 use borrow.Author.Tests.{eq-eqb, ne_eqb}
 use borrow.Rule.Slice.PartMut.{put_mid}
 use Rattle.metafile.specs.Bytes.{part, sum}
@@ -26,7 +26,7 @@ use Rattle.table.specs.Codes.{line_no, lines_from}
 use Rattle.laws.proofs.Lists.{drop-take}
 use Rattle.laws.proofs.Digits.{length-digits_of}
 use Rattle.laws.proofs.Table.{kind-local, size-split, write-split, lefts}
-use Rattle.laws.proofs.Loops.{part-drop, placed-length, placed-placed, placed-nothing, put-more}
+use Rattle.laws.proofs.Loops.{placed-length, placed-placed, placed-nothing, put-more}
 use Rattle.laws.proofs.Closed.{fixed-formed}
 use Rattle.laws.proofs.Distances.{lines}
 use Rattle.lines.specs.Values.{chopped, values_size, closing_for}

@@ -3,19 +3,19 @@
 --     filled fill_none fill_more fill_end   the loop that fills a field
 --     sub-format-given, recording-agent-given, writing-agent-given   what is handed in is what append sees
 -- Assumes nothing.
-use Prim.Native.Nat.{ℕ, zero, suc, ◌+◌, ◌-◌, min, ◌≤◌, ◌<◌}
+use Prim.Native.Nat.{ℕ, suc, ◌+◌, ◌-◌, min, ◌≤◌, ◌<◌}
 use mathlib.Core.Bool.{Bool, true, false}
-use mathlib.Core.Path.{◌≡◌, refl, sym, ap, ◌∙◌}
+use mathlib.Core.Path.{◌≡◌, refl, sym}
 use mathlib.Core.List.{List, [], ◌∷◌, ◌++◌, append_assoc, append-nil}
 use native.Mathlib.Omega.{arith}
 use native.Mathlib.Numerals.{add-one}
 use lib.Dec.{leb}
 use borrow.Author.Tests.{leb-true, leb-false}
-use lib.ListN.{length, take, drop, get_or, set, replicate, length-append, length-replicate}
+use lib.ListN.{length, take, get_or, set, replicate, length-append, length-replicate}
 use lib.Seq.{take-suc, take_all, take-length, take-take, take-append_seam, take-append-le, length-take-le, set_at}
 use Rattle.metafile.specs.declared.Description.{Description}
 use Rattle.metafile.specs.Fields.{padded}
-use Rattle.metafile.specs.Description.{text256, text32, with_sub_format, with_recording, with_writing}
+use Rattle.metafile.specs.Description.{with_sub_format, with_recording, with_writing}
 use Rattle.metafile.specs.Append.{sub_format_given, integrity_given}
 
 -- the first i bytes of a text in a field of n spaces

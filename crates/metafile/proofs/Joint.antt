@@ -1,16 +1,15 @@
 -- The starred cases of 'Checked by hand', as one theorem over the definitions that the contracts cite, by computing.
 -- Assumes nothing.
-use Prim.Native.Nat.{ℕ}
 use mathlib.Core.Bool.{true, false}
 use mathlib.Core.Path.{◌≡◌, refl}
-use mathlib.Core.List.{List, [], ◌∷◌, ◌++◌}
+use mathlib.Core.List.{[], ◌∷◌}
 use lib.IntN.{pos, neg_ℤ}
-use lib.ListN.{length, take, drop, replicate}
+use lib.ListN.{take, drop, replicate}
 use Rattle.metafile.specs.Bytes.{bytes, part, total}
 use Rattle.metafile.specs.Fields.{offset_value}
-use Rattle.metafile.specs.Lines.{Kind, serial, date, offset, kind_fault}
+use Rattle.metafile.specs.Lines.{serial, date, offset, kind_fault}
 use Rattle.metafile.specs.Chunk.{dependency_length_for, header_length_for, chunk_fault, chunk_end}
-use Rattle.metafile.specs.Answers.{Answer, result, refused}
+use Rattle.metafile.specs.Answers.{result, refused}
 use Rattle.metafile.specs.Begin.{begin}
 use Rattle.metafile.specs.Append.{append}
 use Rattle.metafile.proofs.Computed.{computed}

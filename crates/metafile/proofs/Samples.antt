@@ -1,7 +1,7 @@
 -- Values that the joint proof and the examples are given. Assumes nothing.
 use Prim.Native.Nat.{ℕ}
 use mathlib.Core.Bool.{Bool}
-use mathlib.Core.List.{List, [], ◌∷◌, ◌++◌}
+use mathlib.Core.List.{List, [], ◌++◌}
 use lib.ListN.{length, replicate}
 use Rattle.metafile.specs.declared.Text256.{Text256}
 use Rattle.metafile.specs.declared.Text32.{Text32}

@@ -1,5 +1,5 @@
 -- What the calls answer, by this paper's number and values, and refusals by tests in their order. Assumes nothing.
-use Rattle.std.specs.Prelude.{ℕ, zero, suc, ◌+◌, ◌^◌, Bool, true, false, cond, ◌||◌, List, [], ◌∷◌, ◌++◌, ltb, length, take, drop}
+use Rattle.std.specs.Prelude.{ℕ, ◌+◌, ◌^◌, Bool, false, cond, ◌||◌, List, [], ◌∷◌, ◌++◌, ltb, length, take, drop}
 use Rattle.metafile.specs.declared.BeginAnswer.{BeginAnswer}
 use Rattle.metafile.specs.declared.BeginAnswer.TheVariants.{Written, Refused as BeginRefused}
 use Rattle.metafile.specs.declared.ParentAnswer.{ParentAnswer}

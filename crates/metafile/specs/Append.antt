@@ -1,6 +1,6 @@
 -- Append: "Given: the file and its length in a longer lent buffer, the fields, rows named as parents, specific data,
 -- contents, counted or open." Assumes nothing.
-use Rattle.std.specs.Prelude.{ℕ, zero, suc, ◌+◌, Bool, true, false, cond, not, ◌&&◌, ◌||◌, List, [], ◌∷◌, ◌++◌, leb, ltb, eqb, pos, length, take, drop, get_or, replicate}
+use Rattle.std.specs.Prelude.{ℕ, ◌+◌, Bool, true, false, cond, not, ◌&&◌, ◌||◌, List, [], ◌∷◌, ◌++◌, ltb, eqb, pos, length, take, drop, get_or, replicate}
 use Rattle.metafile.specs.declared.Row.{Row}
 use Rattle.metafile.specs.declared.Description.{Description}
 use Rattle.metafile.specs.Bytes.{all, non_zero, same, member, find}
@@ -10,7 +10,7 @@ use Rattle.metafile.specs.Closing.{Integrity, integrity_lines, integrity_values,
 use Rattle.metafile.specs.Header.{is_llc, mark_of}
 use Rattle.metafile.specs.Chunk.{given_lines, head, dependency_fields, dependency_length_for, header_length_for, multi_name, sub_format}
 use Rattle.metafile.specs.Reading.{reading, rows_of, serials_of, is_clean}
-use Rattle.metafile.specs.Answers.{result, Test, refuse, limit, over_limit, Outcome, placed, unless_refused}
+use Rattle.metafile.specs.Answers.{result, Test, refuse, over_limit, Outcome, placed, unless_refused}
 
 -- beside the buffer and the file's length in it
 pub record Given : Type 0 where

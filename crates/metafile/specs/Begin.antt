@@ -1,6 +1,6 @@
 -- "Begin is given strategy, mark, serial, both dates and both agents, writes these bytes at the start of a lent buffer
 -- and answers their number." Assumes nothing.
-use Rattle.std.specs.Prelude.{ℕ, Bool, not, ◌&&◌, ◌||◌, List, [], ◌∷◌, ◌++◌, ltb, length}
+use Rattle.std.specs.Prelude.{ℕ, Bool, not, ◌&&◌, List, [], ◌∷◌, ◌++◌, ltb, length}
 use Rattle.metafile.specs.Bytes.{all, non_zero, is_empty, same, starts}
 use Rattle.metafile.specs.Fields.{digits_of}
 use Rattle.metafile.specs.Lines.{NUL, lines_of, write, formed}

@@ -1,6 +1,6 @@
 -- Bytes and lists of bytes, and the first fault. "All bytes are 8-bit; LF is the byte 10."
 -- A byte is a number, a run of bytes a list of numbers. Assumes nothing.
-use Rattle.std.specs.Prelude.{ℕ, zero, suc, ◌+◌, ◌%◌, Bool, true, false, cond, not, ◌&&◌, ◌||◌, List, [], ◌∷◌, leb, eqb, length, take, drop}
+use Rattle.std.specs.Prelude.{ℕ, zero, suc, ◌+◌, ◌%◌, Bool, true, false, cond, not, ◌&&◌, ◌||◌, List, [], ◌∷◌, eqb, length, take, drop}
 use Prim.Native.String.{String, [] as none, ◌∷◌ as ◌before◌}
 use Prim.Native.Char.{code}
 

@@ -1,7 +1,7 @@
 -- The calls that read: read, parent, contents, gather. "Parent, append, contents and gather judge the file's bytes by
 -- a reading with rows enough, not by a lent table." "Parent, contents and gather test 11 and then by rising number."
 -- Assumes nothing.
-use Rattle.std.specs.Prelude.{ℕ, zero, suc, ◌+◌, Bool, true, false, cond, not, ◌||◌, List, [], ◌∷◌, ◌++◌, leb, ltb, length, take, drop}
+use Rattle.std.specs.Prelude.{ℕ, suc, Bool, false, cond, not, ◌||◌, List, [], ◌∷◌, ◌++◌, leb, ltb, length, drop}
 use Rattle.metafile.specs.declared.Row.{Row}
 use Rattle.metafile.specs.declared.ReadAnswer.{ReadAnswer}
 use Rattle.metafile.specs.Bytes.{part, choose, same, member}

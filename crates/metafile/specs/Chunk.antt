@@ -1,10 +1,10 @@
 -- One chunk, read from its own place: s is the file from there on, m the mark. Places and lengths are counted from
 -- there, so that a chunk reads the same wherever it stands. Assumes nothing.
-use Rattle.std.specs.Prelude.{ℕ, zero, suc, ◌+◌, ◌-◌, ◌*◌, Bool, true, false, cond, not, ◌&&◌, ◌||◌, List, [], ◌∷◌, ◌++◌, leb, eqb, ℤ, pos, length, take, drop}
+use Rattle.std.specs.Prelude.{ℕ, zero, suc, ◌+◌, ◌-◌, ◌*◌, Bool, true, false, cond, not, ◌&&◌, ◌||◌, List, [], ◌∷◌, ◌++◌, leb, eqb, ℤ, pos, drop}
 use Rattle.metafile.specs.declared.Row.{Row}
 use Rattle.metafile.specs.Bytes.{bytes, part, ◌⊳◌, require, is_zero, same, find}
 use Rattle.metafile.specs.Fields.{count_value, padded, offset_value}
-use Rattle.metafile.specs.Lines.{SPE, NUL, Kind, free, Field, fixed, value, Line, lf, opened, lines_of, run, chunk_header_length, sub_format_id, generic_type, time_and_event, dependency_length, dependency_count, dependency_serial, dependency_sub_format, content_length}
+use Rattle.metafile.specs.Lines.{SPE, NUL, free, Field, value, Line, lf, opened, lines_of, run, chunk_header_length, sub_format_id, generic_type, time_and_event, dependency_length, dependency_count, dependency_serial, dependency_sub_format, content_length}
 use Rattle.metafile.specs.Closing.{closing, closing_end, closing_serial, sum_good}
 use Rattle.metafile.specs.Multi.{multi_fault, multi_bytes}
 

@@ -1,7 +1,7 @@
 -- Integrity data and the closing: "mark, integrity data, mark". It ends a chunk, and in the file header the 65 bytes
 -- that stand in place of one. c is where it begins, m the mark, s the bytes from the chunk's place on.
 -- Assumes nothing.
-use Rattle.std.specs.Prelude.{ℕ, ◌+◌, Bool, List, [], ◌∷◌, ◌++◌, eqb, length, take, drop}
+use Rattle.std.specs.Prelude.{ℕ, ◌+◌, Bool, List, [], ◌∷◌, ◌++◌, eqb, length, take}
 use Rattle.metafile.specs.Bytes.{part, sum}
 use Rattle.metafile.specs.Fields.{digits_of, count_value, padded}
 use Rattle.metafile.specs.Lines.{Field, fixed, value, Line, lf, lines_of, write, chunk_serial, recording_date, recording_agent, writing_date, writing_agent, checksum}

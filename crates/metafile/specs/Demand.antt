@@ -1,6 +1,6 @@
 -- Demand 3, as one proposition over the defined values of append, read and parent: what the reading gives after power
 -- fails in an accepted append. Cut.antt says what of the disk.
-use Rattle.std.specs.Prelude.{ℕ, zero, suc, ◌+◌, ◌*◌, ◌<◌, Bool, true, false, cond, ◌≡◌, ◌⊎◌, List, [], ◌∷◌, ◌++◌, length, take, drop, get_or}
+use Rattle.std.specs.Prelude.{ℕ, ◌+◌, ◌<◌, true, false, cond, ◌≡◌, ◌⊎◌, List, [], ◌∷◌, ◌++◌, length, take, drop, get_or}
 use Rattle.metafile.specs.declared.Row.{Row}
 use Rattle.metafile.specs.Bytes.{part}
 use Rattle.metafile.specs.Fields.{digits_of, padded}
@@ -8,7 +8,7 @@ use Rattle.metafile.specs.Lines.{time_standard, event_synch}
 use Rattle.metafile.specs.Header.{mark_of}
 use Rattle.metafile.specs.Chunk.{sub_format, generic, synch_type, offset_bytes, dependency_serial_of, dependency_sub_format_of, header_length_for, dependency_length_for, header_bytes_for, by_count, by_mark, offset_under}
 use Rattle.metafile.specs.Reading.{reading, rows_of}
-use Rattle.metafile.specs.Answers.{result, Outcome}
+use Rattle.metafile.specs.Answers.{result}
 use Rattle.metafile.specs.Append.{Given, sub_format_given, stamp_given, integrity_given, row_no, sub_format_of, content_count_for, append}
 use Rattle.metafile.specs.Calls.{ReadOutcome, read, parent}
 use Rattle.metafile.specs.Cut.{CutPoint, remains}

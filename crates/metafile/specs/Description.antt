@@ -1,5 +1,5 @@
 -- The chunk description: what each of its methods hands back. Assumes nothing.
-use Rattle.std.specs.Prelude.{ℕ, List, [], ◌∷◌, length, take, replicate}
+use Rattle.std.specs.Prelude.{ℕ, List, length, take, replicate}
 use Rattle.metafile.specs.declared.Text256.{Text256}
 use Rattle.metafile.specs.declared.Text32.{Text32}
 use Rattle.metafile.specs.declared.Description.{Description}

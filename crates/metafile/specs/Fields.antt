@@ -1,6 +1,6 @@
 -- Text fields: each is a test on its bytes, and a value. A value of bytes that fail the test is some number; the
 -- fault hides it. Assumes nothing.
-use Rattle.std.specs.Prelude.{ℕ, zero, suc, ◌+◌, ◌-◌, ◌*◌, ◌/◌, ◌%◌, ◌^◌, Bool, true, false, cond, not, ◌&&◌, ◌||◌, List, [], ◌∷◌, ◌++◌, leb, ltb, eqb, ℤ, pos, neg_ℤ, length, take, drop, get_or, replicate}
+use Rattle.std.specs.Prelude.{ℕ, zero, suc, ◌+◌, ◌-◌, ◌*◌, ◌/◌, ◌%◌, ◌^◌, Bool, false, cond, not, ◌&&◌, ◌||◌, List, [], ◌∷◌, ◌++◌, leb, ltb, eqb, ℤ, pos, neg_ℤ, length, take, get_or, replicate}
 use Rattle.metafile.specs.Bytes.{bytes, part, all, same, member, sum}
 
 -- ---- "A number field In is n digits 0 to 9."

@@ -1,6 +1,6 @@
 -- The file header: the first 65 bytes, mark, integrity data, mark. Assumes nothing.
-use Rattle.std.specs.Prelude.{ℕ, ◌+◌, Bool, not, ◌||◌, List, [], ◌∷◌, eqb, length, take, drop}
-use Rattle.metafile.specs.Bytes.{bytes, part, ◌⊳◌, require, is_zero, same, starts}
+use Rattle.std.specs.Prelude.{ℕ, Bool, not, ◌||◌, List, [], ◌∷◌, drop}
+use Rattle.metafile.specs.Bytes.{part, ◌⊳◌, require, is_zero, same, starts}
 use Rattle.metafile.specs.Fields.{count_value}
 use Rattle.metafile.specs.Lines.{LLC, Field, lines_of, run, field_fault, format_id, separator_strategy}
 use Rattle.metafile.specs.Closing.{closing, closing_end, sum_good}

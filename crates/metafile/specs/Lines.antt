@@ -1,6 +1,6 @@
 -- Field kinds, the field rule, the table of lines, and the two runs over a stretch of fields: the reader's over bytes,
 -- the writer's over values. Assumes nothing.
-use Rattle.std.specs.Prelude.{ℕ, zero, suc, ◌+◌, Bool, true, cond, ◌&&◌, List, [], ◌∷◌, ◌++◌, leb, eqb, length, take, drop}
+use Rattle.std.specs.Prelude.{ℕ, ◌+◌, Bool, true, cond, ◌&&◌, List, [], ◌∷◌, ◌++◌, leb, eqb, length, take, drop}
 use Rattle.metafile.specs.Bytes.{bytes, ◌⊳◌, require, all, same, member}
 use Rattle.metafile.specs.Fields.{is_count, count_value, is_text, is_offset}
 use Rattle.metafile.specs.Days.{day_read, serial_read, day_fault}

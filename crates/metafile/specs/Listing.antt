@@ -1,5 +1,5 @@
 -- The desk's slip: the text that the listing program prints for the bytes of its standard input. Assumes nothing.
-use Rattle.std.specs.Prelude.{ℕ, zero, suc, ◌+◌, Bool, cond, List, [], ◌∷◌, ◌++◌, ltb, eqb, length}
+use Rattle.std.specs.Prelude.{ℕ, suc, Bool, cond, List, [], ◌∷◌, ◌++◌, ltb, eqb, length}
 use Rattle.metafile.specs.declared.Row.{Row}
 use Rattle.metafile.specs.Bytes.{bytes, is_zero}
 use Rattle.metafile.specs.Fields.{digits_of}

@@ -1,9 +1,9 @@
 -- The contents of a MultiChunk: its header, the types, the mini-chunks. r is the file from the contents' first line
 -- on, t from a type's or a mini-chunk's first byte on. Assumes nothing.
-use Rattle.std.specs.Prelude.{ℕ, zero, suc, ◌+◌, ◌-◌, Bool, true, false, cond, not, ◌&&◌, ◌||◌, List, [], ◌∷◌, ◌++◌, leb, eqb, length, take, drop}
+use Rattle.std.specs.Prelude.{ℕ, zero, suc, ◌+◌, ◌-◌, Bool, cond, not, ◌&&◌, ◌||◌, List, [], ◌∷◌, ◌++◌, leb, eqb, drop}
 use Rattle.metafile.specs.Bytes.{bytes, part, ◌⊳◌, require, is_zero, same, member, starts}
 use Rattle.metafile.specs.Fields.{count_value}
-use Rattle.metafile.specs.Lines.{Kind, text, free, i12, Field, fixed, value, Line, lf, opened, lines_of, run, field_fault, sub_format_id, time_and_event, multi_header_length, type_count, sub_type_length, short_id}
+use Rattle.metafile.specs.Lines.{text, free, i12, Field, fixed, value, lf, opened, lines_of, run, field_fault, sub_format_id, time_and_event, multi_header_length, type_count, sub_type_length, short_id}
 
 -- ---- "Multi_Chunk_Header_Length= I12; MiniChunk_Type_Count= I4 from 1 to 64"
 

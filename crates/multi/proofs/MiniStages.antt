@@ -7,21 +7,21 @@
 -- Assumes nothing.
 use Prim.Native.Nat.{ℕ, ◌+◌, ◌-◌, ◌≤◌, ◌<◌}
 use mathlib.Core.Bool.{Bool, true, false}
-use mathlib.Core.Path.{◌≡◌, refl, sym, ap, ◌∙◌}
+use mathlib.Core.Path.{◌≡◌, sym, ap, ◌∙◌}
 use mathlib.Core.List.{List, [], ◌∷◌}
 use native.Mathlib.Omega.{arith}
 use lib.ListN.{length, take, drop, length-take, length-drop}
 use lib.Seq.{drop-drop, length-take-le}
 use Rattle.metafile.specs.Bytes.{part, ◌⊳◌, require, same, member, starts}
 use Rattle.metafile.specs.Fields.{count_value}
-use Rattle.metafile.specs.Lines.{text, free, i12, fixed, value, opened, field_width, size, field_fault, text_fault, kind_fault, fault, run, table, multi_header_length, short_id}
+use Rattle.metafile.specs.Lines.{free, fixed, value, opened, field_width, field_fault, text_fault, kind_fault, fault, run, table, multi_header_length, short_id}
 use Rattle.metafile.specs.Answers.{placed}
 use Rattle.metafile.specs.Multi.{mini_label, mini_id, mini_data, mini_fault}
 use Rattle.table.specs.Codes.{line_no}
-use Rattle.laws.proofs.First.{test, ⊳-left, ⊳-right, ⊳-none, require-met, require-unmet}
+use Rattle.laws.proofs.First.{test, ⊳-none, require-met, require-unmet}
 use Rattle.laws.proofs.Lists.{same-eq, starts-fits}
 use Rattle.laws.proofs.Loops.{fixed-good, placed-nothing}
-use Rattle.laws.proofs.Table.{field-short, field-long, run-enough}
+use Rattle.laws.proofs.Table.{field-short, field-long}
 use Rattle.laws.proofs.Distances.{lines}
 use Rattle.multi.specs.Part.{text_ids, first_mini, mini_rest, data_under}
 use Rattle.lines.specs.declared.reader.Taken.{Taken}

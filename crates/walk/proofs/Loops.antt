@@ -24,7 +24,6 @@ use Rattle.metafile.specs.Append.{row_no}
 use Rattle.metafile.specs.Calls.{row_with}
 use Rattle.laws.proofs.First.{test, cases, untrue, and_both, ⊳-stop, ⊳-go, require-met, require-unmet, choose-go, choose-stop}
 use Rattle.laws.proofs.Loops.{part-drop}
-use Rattle.chunk_laws.proofs.Rows.{some_bytes}
 use Rattle.chunk_laws.proofs.File.{file-few}
 use Rattle.chunk_laws.proofs.Serials.{file-fresh}
 use Rattle.chunk.specs.declared.parts.Layout.{Layout}

@@ -17,7 +17,7 @@ use borrow.Author.Tests.{eqb-true, eqb-false, eq-eqb, ne_eqb, lt-ltb, le-ltb, lt
 use Rattle.metafile.specs.declared.Row.{Row}
 use Rattle.metafile.specs.Fields.{known}
 use Rattle.metafile.specs.Header.{header_fault}
-use Rattle.metafile.specs.Reading.{reading, rows_of, serials_of}
+use Rattle.metafile.specs.Reading.{rows_of, serials_of}
 use Rattle.metafile.specs.Append.{row_no}
 use Rattle.laws.proofs.First.{test}
 use Rattle.walk.specs.declared.cursor.Cursor.{Cursor}

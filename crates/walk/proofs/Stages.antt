@@ -3,17 +3,16 @@
 --     title-..    the first 65 bytes; mark-..: the mark as a field; stage-..: the header's first fault
 --     header-..   what the header answers; HeaderIs: one without a fault
 -- Assumes nothing.
-use Prim.Native.Nat.{ℕ, zero, suc, ◌+◌, ◌-◌, ◌≤◌, ◌<◌}
+use Prim.Native.Nat.{ℕ, suc, ◌+◌, ◌-◌, ◌≤◌, ◌<◌}
 use mathlib.Core.Bool.{Bool, true, false, not, ◌||◌}
 use mathlib.Core.Path.{◌≡◌, refl, sym, ap, ◌∙◌}
 use mathlib.Core.List.{List}
 use native.Mathlib.Omega.{arith}
-use lib.Dec.{eqb}
 use lib.ListN.{length, take, drop, length-drop}
 use Rattle.metafile.specs.Bytes.{part, ◌⊳◌, require, is_zero, same, starts, sum}
 use Rattle.metafile.specs.Fields.{count_value}
 use Rattle.metafile.specs.Lines.{LLC, lines_of, field_fault, run, table}
-use Rattle.metafile.specs.Closing.{closing, sum_place, closing_end, sum_good}
+use Rattle.metafile.specs.Closing.{closing, closing_end, sum_good}
 use Rattle.metafile.specs.Multi.{mini_label}
 use Rattle.metafile.specs.Header.{title, is_llc, mark_length, mark_of, title_fault, mark_fault, header_fault, header_end, header_good}
 use Rattle.table.specs.Codes.{lines_from}

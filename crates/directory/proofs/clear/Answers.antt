@@ -1,6 +1,5 @@
 -- `directory::clear` meets its contract. The loop's invariant: the slots before `i` are empty. The measure is what is left
 -- of the array. Assumes nothing.
-use Prim.Native.Nat.{◌-◌}
 use mathlib.Core.Path.{sym, ◌∙◌}
 use native.Mathlib.Omega.{arith}
 use lib.ListN.{length-set}

@@ -1,6 +1,5 @@
 -- `directory::look_from` meets its contract. The loop's invariant: each entry with the serial number is reached from `i`
 -- on. The measure is what is left of the array. Assumes nothing.
-use Prim.Native.Nat.{◌-◌}
 use native.Mathlib.Omega.{arith}
 use lib.ListN.{get_or}
 use mir.Facts.{Fits-widen}

@@ -1,9 +1,7 @@
 -- `graph::standing` and `graph::listed`, which call each other, meet their contracts. Assumes nothing.
-use Rattle.std.proofs.Common.{rules, true, false, ◌≡◌, ℕ, ◌+◌, ◌*◌, ◌<◌, sym, arith, length-set}
-use mathlib.Core.Logic.{⊎_elim}
+use Rattle.std.proofs.Common.{sym, arith}
 use Rattle.laws.proofs.First.{untrue}
 use Rattle.laws.proofs.Closure.{circle-on}
-use Rattle.graph.specs.Graph.{unvisited, ListDone}
 use Rattle.graph.proofs.Laws.{goes-there, goes-not, on-circle, done-before, unseen, visits, list-given, row_done, list-begun, list-next, list-whole, standing-given, list-more}
 use Rattle.graph.proofs.+listed_standing.Goals as goal
 use Rattle.graph.proofs.+listed_standing.Goals.{listed-then-table-row-ne0+else-not-fine, listed-else-table-row-ne0}
@@ -27,11 +25,11 @@ pub listed-loop-b-preserved : goal.listed-loop-b-preserved
 listed-loop-b-preserved t c =
     let l = c.loop-b.invariant in
     elim c.if-table-row-ne0.branch [
-      listed-then-table-row-ne0+else-not-fine w ↦
-        rw w.marks-is
-        (list-more c.requires l c.loop-b-test.true (goes-there _ _ _ w.if-table-row-ne0.true)
-        (w.standing-fine.ensures.done w.if-not-fine.false))
-    | listed-else-table-row-ne0 w ↦ rw w.marks-is (list-next c.requires l (goes-not _ _ _ w.if-table-row-ne0.false))
+      | listed-then-table-row-ne0+else-not-fine w ↦
+          rw w.marks-is
+          (list-more c.requires l c.loop-b-test.true (goes-there _ _ _ w.if-table-row-ne0.true)
+          (w.standing-fine.ensures.done w.if-not-fine.false))
+      | listed-else-table-row-ne0 w ↦ rw w.marks-is (list-next c.requires l (goes-not _ _ _ w.if-table-row-ne0.false))
     ]
 
 pub listed-returns : goal.listed-returns

@@ -1,6 +1,5 @@
 -- `index::first` meets its contract. The loop's invariant: the first entry is the first from `i` on. The measure is what is
 -- left of the entries. Assumes nothing.
-use Prim.Native.Nat.{◌-◌}
 use native.Mathlib.Omega.{arith}
 use Rattle.index.proofs.Loops.{first-end, first-empty, first-this, first_next}
 use Rattle.index.proofs.first.Goals as goal

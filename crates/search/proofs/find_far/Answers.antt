@@ -1,6 +1,5 @@
 -- `search::find_far` meets its contract. The loop's invariant: the byte does not occur before `i`. The measure is what is
 -- left. Assumes nothing.
-use Prim.Native.Nat.{◌-◌}
 use mathlib.Core.List.{[], ◌∷◌}
 use mathlib.Core.Path.{sym, ◌∙◌}
 use native.Mathlib.Omega.{arith}

@@ -1,6 +1,5 @@
 -- `search::find_inside` meets its contract. The loop's invariant: the mark does not begin before `p`, and `p` is inside the
 -- text or at its end. The measure is what is left of the text. Assumes nothing.
-use Prim.Native.Nat.{◌-◌}
 use mathlib.Core.Path.{sym, ◌∙◌}
 use native.Mathlib.Omega.{arith}
 use Rattle.search.proofs.Laws.{inside-none, inside-begin, inside-here, inside-next, inside-end}

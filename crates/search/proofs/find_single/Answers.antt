@@ -1,6 +1,5 @@
 -- `search::find_single` meets its contract. The loop's invariant: the byte does not occur before `i`. The measure is what
 -- is left of the length. Assumes nothing.
-use Prim.Native.Nat.{◌-◌}
 use mathlib.Core.List.{[], ◌∷◌}
 use native.Mathlib.Omega.{arith}
 use Rattle.search.proofs.Laws.{passed_none, passed-end, byte-here, byte-not}

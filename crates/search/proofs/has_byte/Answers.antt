@@ -1,6 +1,5 @@
 -- `search::has_byte` meets its contract. The loop's invariant: the byte occurs if it was found or occurs from `i` on. The
 -- measure is what is left. Assumes nothing.
-use Prim.Native.Nat.{◌-◌}
 use native.Mathlib.Omega.{arith}
 use Rattle.search.proofs.Laws.{any-begin, any_next, any-end}
 use Rattle.search.proofs.has_byte.Goals as goal

@@ -1,6 +1,5 @@
 -- `search::same_bytes` meets its contract. The loop's invariant: the two are the same if the bytes passed are and the rest
 -- is. The measure is what is left. Assumes nothing.
-use Prim.Native.Nat.{◌-◌}
 use native.Mathlib.Omega.{arith}
 use Rattle.search.proofs.Laws.{same-lengths, all-begin, all-next, all_end}
 use Rattle.search.proofs.same_bytes.Goals as goal

@@ -1,6 +1,6 @@
 -- `sums::byte_sum` meets its contract. The loop's invariant: `acc` is the sum of the bytes before `i`. The measure is
 -- what is left of the length. Assumes nothing.
-use Rattle.std.proofs.Common.{◌-◌, arith}
+use Rattle.std.proofs.Common.{arith}
 use Rattle.sums.proofs.Laws.{sum-none, sum_more, sum-whole}
 use Rattle.sums.proofs.byte_sum.Goals as goal
 

@@ -2,7 +2,7 @@
 use mathlib.Core.Path.{◌≡◌}
 use native.Mathlib.Omega.{arith}
 use Rattle.table.specs.Codes.{codes, code_no}
-use Rattle.table.proofs.Lines.{None, last}
+use Rattle.table.proofs.Lines.{None}
 use Rattle.table.proofs.line_at.Goals as goal
 
 pub returns-in-0 : goal.returns-in-0

@@ -1,6 +1,5 @@
 -- `table::put_label` meets its contract. The loop's invariant: the first bytes of the label are put. The measure: what
 -- is left of the label. Assumes nothing.
-use Prim.Native.Nat.{◌-◌}
 use mathlib.Core.Path.{refl, sym}
 use native.Mathlib.Omega.{arith}
 use lib.ListN.{length-set}

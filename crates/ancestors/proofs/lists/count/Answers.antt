@@ -27,8 +27,8 @@ loop-i-preserved c =
     let w = t.loop-i.invariant in
     let is = c.is_listed.ensures in
     elim c.if-is_listed.branch [
-      then-is_listed v ↦ rw v.count-is (counting-in _ _ w t.loop-i-test.true (sym is ∙ v.if-is_listed.true))
-    | else-is_listed v ↦ rw v.count-is (counting-out _ _ w t.loop-i-test.true (sym is ∙ v.if-is_listed.false))
+      | then-is_listed v ↦ rw v.count-is (counting-in _ _ w t.loop-i-test.true (sym is ∙ v.if-is_listed.true))
+      | else-is_listed v ↦ rw v.count-is (counting-out _ _ w t.loop-i-test.true (sym is ∙ v.if-is_listed.false))
     ]
 
 pub returns : goal.returns

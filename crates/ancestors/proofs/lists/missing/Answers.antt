@@ -37,8 +37,8 @@ loop-i-preserved c =
     let t = c in
     let w = t.loop-i.invariant in
     elim c.if-marks-i-eq-DONE.branch [
-      then-marks-i-eq-DONE v ↦ rw v.sum-is (adding-in _ _ w t.loop-i-test.true t.requires.small (eq-eqb _ _ v.if-marks-i-eq-DONE.true))
-    | else-marks-i-eq-DONE v ↦ rw v.sum-is (adding-out _ _ w t.loop-i-test.true (ne_eqb _ _ v.if-marks-i-eq-DONE.false))
+      | then-marks-i-eq-DONE v ↦ rw v.sum-is (adding-in _ _ w t.loop-i-test.true t.requires.small (eq-eqb _ _ v.if-marks-i-eq-DONE.true))
+      | else-marks-i-eq-DONE v ↦ rw v.sum-is (adding-out _ _ w t.loop-i-test.true (ne_eqb _ _ v.if-marks-i-eq-DONE.false))
     ]
 
 pub returns : goal.returns

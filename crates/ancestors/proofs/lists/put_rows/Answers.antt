@@ -57,12 +57,12 @@ loop-i-preserved c =
     let less = t.loop-i-test.true in
     let is = c.is_listed.ensures in
     elim c.if-is_listed.branch [
-      then-is_listed v ↦
-        let e = sym is ∙ v.if-is_listed.true in
-        rw (v.used-is, v.list-is) (counting-in _ _ w less e, rw l.loop-i.invariant.1 (put_in _ _ _ _ _ _ less e l.requires.n_in_bounds_2 w.is))
-    | else-is_listed v ↦
-        let e = sym is ∙ v.if-is_listed.false in
-        rw (v.used-is, v.list-is) (counting-out _ _ w less e, l.loop-i.invariant.1 ∙ put-out _ _ _ _ e)
+      | then-is_listed v ↦
+          let e = sym is ∙ v.if-is_listed.true in
+          rw (v.used-is, v.list-is) (counting-in _ _ w less e, rw l.loop-i.invariant.1 (put_in _ _ _ _ _ _ less e l.requires.n_in_bounds_2 w.is))
+      | else-is_listed v ↦
+          let e = sym is ∙ v.if-is_listed.false in
+          rw (v.used-is, v.list-is) (counting-out _ _ w less e, l.loop-i.invariant.1 ∙ put-out _ _ _ _ e)
     ]
 
 pub shape_of-list : goal.shape_of-list

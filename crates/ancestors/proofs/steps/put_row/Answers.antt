@@ -65,8 +65,8 @@ loop-j-preserved c =
     let p = t.requires in
     let less = t.loop-j-test.true in
     elim c.if-parent-n.branch [
-      then-parent-n v ↦ rw (v.table-is, v.missing-is) (tabling_row w _ (parent (goal.at.loop-j-preserved c).After-row_with-parent) p.serials.count p.serials.few p.row_lt_n v.if-parent-n.true, omega arith)
-    | else-parent-n v ↦ rw (v.table-is, v.missing-is) (tabling-missing w _ (parent (goal.at.loop-j-preserved c).After-row_with-parent) p.serials.count v.if-parent-n.false, omega arith)
+      | then-parent-n v ↦ rw (v.table-is, v.missing-is) (tabling_row w _ (parent (goal.at.loop-j-preserved c).After-row_with-parent) p.serials.count p.serials.few p.row_lt_n v.if-parent-n.true, omega arith)
+      | else-parent-n v ↦ rw (v.table-is, v.missing-is) (tabling-missing w _ (parent (goal.at.loop-j-preserved c).After-row_with-parent) p.serials.count v.if-parent-n.false, omega arith)
     ]
 
 pub shape_of-table : goal.shape_of-table

@@ -1,6 +1,6 @@
 -- `blocks::judge::all_zero` meets its contract. The loop's invariant: the bytes before `i` don't decide. The measure is what
 -- is left of the length. Assumes nothing.
-use Rattle.std.proofs.Common.{◌-◌, refl, arith}
+use Rattle.std.proofs.Common.{refl, arith}
 use Rattle.blocks.proofs.Places.{spare-other, spare-next, spare-end}
 use Rattle.blocks.proofs.judge.all_zero.Goals as goal
 

@@ -1,6 +1,6 @@
 -- `blocks::judge::blocks_fault` meets its contract. The loop's invariant: the blocks before `i` have no fault. The measure: the
 -- blocks left. Assumes nothing.
-use Rattle.std.proofs.Common.{◌≡◌, ◌-◌, ◌*◌, ◌<◌, length, sym, refl, ◌∙◌, arith, length-take}
+use Rattle.std.proofs.Common.{◌≡◌, ◌*◌, ◌<◌, length, sym, refl, ◌∙◌, arith, length-take}
 use Rattle.metafile.specs.Below.{fault_below}
 use Rattle.laws.proofs.Below.{fault-more, fault-first}
 use Rattle.blocks.specs.Blocks.{fault_of}

@@ -1,6 +1,6 @@
 -- `blocks::numbers::big_value` meets its contract. The loop's invariant: the value is that of the bytes before `i`, and below
 -- 256 ^ i. The measure is what is left of the length. Assumes nothing.
-use Rattle.std.proofs.Common.{◌-◌, sym, ap, ◌∙◌, arith, take_all}
+use Rattle.std.proofs.Common.{sym, ap, ◌∙◌, arith, take_all}
 use Rattle.blocks.specs.Blocks.{big_value}
 use Rattle.blocks.proofs.BigEndian.{value_none, value-more, value-small, value_grows}
 use Rattle.blocks.proofs.numbers.big_value.Goals as goal

@@ -1,6 +1,6 @@
 -- `blocks::numbers::block_sum` meets its contract. The loop's invariant: `acc` is the sum of the bytes before `i`. The measure
 -- is what is left of the length. Assumes nothing.
-use Rattle.std.proofs.Common.{◌-◌, ap, ◌∙◌, arith, take_all}
+use Rattle.std.proofs.Common.{ap, ◌∙◌, arith, take_all}
 use Rattle.blocks.specs.Blocks.{block_sum}
 use Rattle.blocks.proofs.BigEndian.{sum-none, sum_more}
 use Rattle.blocks.proofs.numbers.block_sum.Goals as goal

@@ -1,6 +1,6 @@
 -- `blocks::write::put_blocks` meets its contract. The loop's invariant: the blocks before `i` are put. The measure: the blocks
 -- left. Assumes nothing.
-use Rattle.std.proofs.Common.{◌≡◌, ◌-◌, ◌*◌, ◌≤◌, length, sym, arith, length-take}
+use Rattle.std.proofs.Common.{◌≡◌, ◌*◌, ◌≤◌, length, sym, arith, length-take}
 use Rattle.metafile.specs.Below.{join_below}
 use Rattle.laws.proofs.Below.{join_more}
 use Rattle.text.proofs.Puts.{put-none, put-length, put-behind, put_is}

@@ -1,6 +1,6 @@
 -- `blocks::write::put_zeros` meets its contract. The loop's invariant: `k` zeros are put. The measure is what is left of them.
 -- Assumes nothing.
-use Rattle.std.proofs.Common.{◌≡◌, ◌+◌, ◌-◌, arith}
+use Rattle.std.proofs.Common.{◌≡◌, ◌+◌, arith}
 use Rattle.text.proofs.Puts.{put-none, put-length, put_is, put-behind, put_byte}
 use Rattle.blocks.proofs.Places.{zero_more}
 use Rattle.blocks.proofs.write.put_zeros.Goals as goal

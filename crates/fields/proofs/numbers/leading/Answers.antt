@@ -1,6 +1,5 @@
 -- `fields::numbers::leading` meets its contract. The loop's invariant: the bytes passed count, and the rest counts on.
 -- The measure: what is left of the slice. Assumes nothing.
-use Prim.Native.Nat.{◌-◌}
 use native.Mathlib.Omega.{arith}
 use Rattle.fields.proofs.Prefix.{byte-below, byte_above, byte-within, prefix-passed, prefix-stopped, prefix-end}
 use Rattle.fields.proofs.numbers.leading.Goals as goal

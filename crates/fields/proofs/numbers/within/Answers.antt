@@ -1,6 +1,5 @@
 -- `fields::numbers::within` meets its contract. The loop's invariant: all pass where those passed over do and the rest
 -- does. The measure: what is left of the slice. Assumes nothing.
-use Prim.Native.Nat.{◌-◌}
 use mathlib.Core.Path.{refl}
 use native.Mathlib.Omega.{arith}
 use lib.Dec.{leb}

@@ -1,5 +1,5 @@
 -- `lines::write::put_bytes` meets its contract. Assumes nothing.
-use Rattle.std.proofs.Common.{refl, arith, length, ◌+◌, ◌-◌, ◌≡◌}
+use Rattle.std.proofs.Common.{refl}
 use Rattle.lines.proofs.Puts.{copied}
 use Rattle.lines.proofs.write.put_bytes.Goals as goal
 

@@ -1,6 +1,6 @@
 -- `Text32::taken` meets its contract. The loop's invariant: the field holds the first bytes of the text, and spaces
 -- behind them. The measure: what is left. Assumes nothing.
-use Prim.Native.Nat.{ℕ, ◌-◌}
+use Prim.Native.Nat.{ℕ}
 use mathlib.Core.Path.{ap, ◌∙◌}
 use mathlib.Core.List.{List}
 use native.Mathlib.Omega.{arith}

@@ -1,6 +1,6 @@
 -- `multi::gather::is_declared` meets its contract. The loop: the short ID is declared as it is by the
 -- types left. Assumes nothing.
-use Prim.Native.Nat.{◌+◌, ◌-◌, ◌≤◌}
+use Prim.Native.Nat.{◌+◌, ◌≤◌}
 use mathlib.Core.Path.{◌≡◌}
 use lib.ListN.{length, drop}
 use Rattle.metafile.specs.Bytes.{member}

@@ -1,6 +1,5 @@
 -- `multi::gather::joined_length` meets its contract. The loop: the mini-chunks left have no fault, and
 -- what is joined so far has so many bytes. Assumes nothing.
-use Prim.Native.Nat.{◌-◌}
 use mathlib.Core.Path.{sym, ◌∙◌}
 use native.Mathlib.Omega.{arith}
 use lib.ListN.{drop}

@@ -1,6 +1,6 @@
 -- `multi::gather::minis_place` meets its contract. The loop: the place and the types left come to the
 -- first mini-chunk. Assumes nothing.
-use Prim.Native.Nat.{◌+◌, ◌-◌, ◌≤◌}
+use Prim.Native.Nat.{◌+◌, ◌≤◌}
 use mathlib.Core.Path.{◌≡◌}
 use lib.ListN.{length, drop}
 use Rattle.metafile.specs.Multi.{types_bytes, minis_place}

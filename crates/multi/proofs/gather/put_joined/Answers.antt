@@ -1,6 +1,5 @@
 -- `multi::gather::put_joined` meets its contract. The loop: the mini-chunks left have no fault, and the
 -- buffer holds what is joined so far. Assumes nothing.
-use Prim.Native.Nat.{◌-◌}
 use mathlib.Core.Path.{sym, ◌∙◌}
 use native.Mathlib.Omega.{arith}
 use Rattle.multi.proofs.MiniWalk.{whole-begins, whole-fits, whole-next, put-begins, put-goes, put-room, put-length, put-long, put-done}
@@ -72,5 +71,8 @@ shape_of-buffer c =
 
 pub returns : goal.returns
 returns c =
-    let l = c.loop-buffer in record { value = put-length l.invariant.1 (sym c.is_mini.ensures ∙ c.loop-buffer-test.false); buffer_after = put-done l.invariant.1
-          (sym c.is_mini.ensures ∙ c.loop-buffer-test.false) }
+    let l = c.loop-buffer in record {
+      value = put-length l.invariant.1 (sym c.is_mini.ensures ∙ c.loop-buffer-test.false);
+      buffer_after = put-done l.invariant.1
+          (sym c.is_mini.ensures ∙ c.loop-buffer-test.false);
+    }

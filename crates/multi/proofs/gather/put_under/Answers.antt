@@ -35,5 +35,8 @@ returns-then-same_bytes c =
 pub returns : goal.returns
 returns c =
     let a = c.args in
-    let long = none-long a.id.now a.at a.r.now c.same_bytes.ensures c.if-same_bytes.false in record { value = omega arith; buffer_after = none-put a.id.now a.at a.r.now c.same_bytes.ensures c.if-same_bytes.false
-          a.done a.buffer.now }
+    let long = none-long a.id.now a.at a.r.now c.same_bytes.ensures c.if-same_bytes.false in record {
+      value = omega arith;
+      buffer_after = none-put a.id.now a.at a.r.now c.same_bytes.ensures c.if-same_bytes.false
+          a.done a.buffer.now;
+    }

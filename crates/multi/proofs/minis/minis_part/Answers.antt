@@ -1,6 +1,5 @@
 -- `multi::minis::minis_part` meets its contract. The loop: the mini-chunks from the start on have the
 -- faults and the end of those left. Assumes nothing.
-use Prim.Native.Nat.{◌-◌}
 use mathlib.Core.Path.{sym, ◌∙◌}
 use native.Mathlib.Omega.{arith}
 use Rattle.multi.specs.Part.{kept_ids}

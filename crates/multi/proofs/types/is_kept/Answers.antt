@@ -1,6 +1,6 @@
 -- `multi::types::is_kept` meets its contract. The loop: the short ID is among those kept as it is
 -- among those left. Assumes nothing.
-use Prim.Native.Nat.{◌-◌, ◌*◌}
+use Prim.Native.Nat.{◌*◌}
 use native.Mathlib.Omega.{arith}
 use Rattle.laws.proofs.Stages.{compared}
 use Rattle.multi.proofs.TypeWalk.{kept-begins, kept_here, kept_next, kept-none}

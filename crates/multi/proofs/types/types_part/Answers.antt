@@ -1,6 +1,5 @@
 -- `multi::types::types_part` meets its contract. The loop: the types from the place 65 on have the
 -- faults, the end and the short IDs of those left, behind those kept. Assumes nothing.
-use Prim.Native.Nat.{◌-◌}
 use mathlib.Core.Path.{refl, ◌∙◌}
 use native.Mathlib.Omega.{arith}
 use lib.ListN.{drop}
@@ -29,9 +28,12 @@ shape_of-ids-then-f-ne0 c = omega arith
 pub returns-then-f-ne0 : goal.returns-then-f-ne0
 unfolding multi_length
 returns-then-f-ne0 c =
-    let l = c.loop-i in record { value = part-stopped _ _ _
+    let l = c.loop-i in record {
+      value = part-stopped _ _ _
           (walk-stops l.invariant.0 (omega arith) c.length_at-announced.ensures
-          c.type_fault-f.ensures c.if-f-ne0.true) c.if-f-ne0.true; ids_after = λ z. absurd (c.if-f-ne0.true z) }
+          c.type_fault-f.ensures c.if-f-ne0.true) c.if-f-ne0.true;
+      ids_after = λ z. absurd (c.if-f-ne0.true z);
+    }
 
 pub overflow_add-at : goal.overflow_add-at
 overflow_add-at c = omega arith
@@ -93,5 +95,8 @@ shape_of-ids c = c.loop-i.invariant.1
 
 pub returns : goal.returns
 returns c =
-    let l = c.loop-i in record { value = part-taken _ _ _ (walk-faults l.invariant.0 (omega arith)) (walk_ends l.invariant.0 (omega arith)); ids_after = λ z.
-          walk-declared l.invariant.0 (omega arith) }
+    let l = c.loop-i in record {
+      value = part-taken _ _ _ (walk-faults l.invariant.0 (omega arith)) (walk_ends l.invariant.0 (omega arith));
+      ids_after = λ z.
+          walk-declared l.invariant.0 (omega arith);
+    }

@@ -1,6 +1,5 @@
 -- `relation_line::judge::declares` meets its contract. The loop's invariant: no dependency passed is the parent. The measure:
 -- the dependencies left. Assumes nothing.
-use Prim.Native.Nat.{◌-◌}
 use mathlib.Core.Path.{◌≡◌, sym, ◌∙◌}
 use native.Mathlib.Omega.{arith}
 use borrow.Author.Tests.{not-true, not-false}

@@ -67,10 +67,10 @@ loop-k-preserved c =
       λ z. w.next,
       omega (arith, l.loop-k-test.true),
       elim c.if-is_relations.branch [
-        then-is_relations+else-more-n t ↦
-          rw (t.d-is, t.n-is)
-          (held_more _ _ _ _ inv.2 _ _ _ _ t.add-more.ensures t.if-more-n.false w.serial-is (is ∙ t.if-is_relations.true))
-      | else-is_relations t ↦ rw (t.d-is, t.n-is) (held-other _ _ _ _ inv.2 (is ∙ t.if-is_relations.false))
+        | then-is_relations+else-more-n t ↦
+            rw (t.d-is, t.n-is)
+            (held_more _ _ _ _ inv.2 _ _ _ _ t.add-more.ensures t.if-more-n.false w.serial-is (is ∙ t.if-is_relations.true))
+        | else-is_relations t ↦ rw (t.d-is, t.n-is) (held-other _ _ _ _ inv.2 (is ∙ t.if-is_relations.false))
       ],
     )
 

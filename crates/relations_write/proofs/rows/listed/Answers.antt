@@ -35,8 +35,8 @@ loop-j-preserved c =
     let is = sym c.is_listed.ensures in (
       omega (arith, l.loop-j-test.true),
       elim c.if-is_listed.branch [
-        then-is_listed t ↦ omega (arith, t.count-is, inv.1, next true (is ∙ t.if-is_listed.true))
-      | else-is_listed t ↦ omega (arith, t.count-is, inv.1, next false (is ∙ t.if-is_listed.false))
+        | then-is_listed t ↦ omega (arith, t.count-is, inv.1, next true (is ∙ t.if-is_listed.true))
+        | else-is_listed t ↦ omega (arith, t.count-is, inv.1, next false (is ∙ t.if-is_listed.false))
       ],
     )
 

@@ -35,13 +35,17 @@ put_line-q-requires c =
     let k = l in
     let j = l.loop-j.j in
     let inv = l.loop-j.invariant in
-    let next = count_next (tested (goal.at.put_line-q-requires c).Start) j true (sym i.is_listed.ensures ∙ c.if-is_listed.true) in record { serial_len = simp (length-take, length-drop) (omega (arith, k.requires.serial_in_bounds)); j_in_bounds = simp (length-take, length-drop) (omega (arith, l.loop-j-test.true, k.requires.n_in_bounds)); at_in_bounds = omega (
-          arith,
-          next,
-          inv.1.ends,
-          room (goal.at.put_line-q-requires c).Start (j + 1) (omega (arith, l.loop-j-test.true)),
-          put-room inv.1 (room (goal.at.put_line-q-requires c).Start j inv.0),
-        ) }
+    let next = count_next (tested (goal.at.put_line-q-requires c).Start) j true (sym i.is_listed.ensures ∙ c.if-is_listed.true) in record {
+      serial_len = simp (length-take, length-drop) (omega (arith, k.requires.serial_in_bounds));
+      j_in_bounds = simp (length-take, length-drop) (omega (arith, l.loop-j-test.true, k.requires.n_in_bounds));
+      at_in_bounds = omega (
+        arith,
+        next,
+        inv.1.ends,
+        room (goal.at.put_line-q-requires c).Start (j + 1) (omega (arith, l.loop-j-test.true)),
+        put-room inv.1 (room (goal.at.put_line-q-requires c).Start j inv.0),
+      );
+    }
 
 pub loop-j-preserved : goal.loop-j-preserved
 loop-j-preserved c =
@@ -55,11 +59,11 @@ loop-j-preserved c =
     let inside : k.args.at + (568 + 344 * j + 344) ≤ length file = omega (arith, k.requires.n_in_bounds) in (
       more,
       elim c.if-is_listed.branch [
-        then-is_listed t ↦
-          rw (t.buffer-is, t.q-is)
-          (listed-put file _ _ j inv.1 (is ∙ t.if-is_listed.true) (room (goal.at.loop-j-preserved c).Start (j + 1) more)
-          (line-put file _ _ j k.requires.serial_in_bounds inside _ _ t.put_line-q.ensures.0 _ _ t.put_line-q.ensures.1))
-      | else-is_listed t ↦ rw (t.buffer-is, t.q-is) (unlisted-put file _ _ j inv.1 (is ∙ t.if-is_listed.false))
+        | then-is_listed t ↦
+            rw (t.buffer-is, t.q-is)
+            (listed-put file _ _ j inv.1 (is ∙ t.if-is_listed.true) (room (goal.at.loop-j-preserved c).Start (j + 1) more)
+            (line-put file _ _ j k.requires.serial_in_bounds inside _ _ t.put_line-q.ensures.0 _ _ t.put_line-q.ensures.1))
+        | else-is_listed t ↦ rw (t.buffer-is, t.q-is) (unlisted-put file _ _ j inv.1 (is ∙ t.if-is_listed.false))
       ],
     )
 

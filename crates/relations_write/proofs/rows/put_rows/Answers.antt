@@ -30,13 +30,18 @@ put_row-p-requires c =
     let r = c in
     let s = r in
     let l = r.loop-k in
-    let w = r.row_at-row.ensures in record { found_in = s.requires.found_in; n_in_bounds = omega (arith, w.dependencies-inside, w.end-inside); serial_in_bounds = w.serial-inside; n_in_bounds_2 = omega (
-            arith,
-            l.invariant.2.ends,
-            row-counted _ _ _ _ _ w,
-            room (goal.at.put_row-p-requires c).Start (l.k + 1) (omega (arith, r.loop-k-test.true)),
-            put-room l.invariant.2 (room (goal.at.put_row-p-requires c).Start l.k l.invariant.1),
-          ) }
+    let w = r.row_at-row.ensures in record {
+      found_in = s.requires.found_in;
+      n_in_bounds = omega (arith, w.dependencies-inside, w.end-inside);
+      serial_in_bounds = w.serial-inside;
+      n_in_bounds_2 = omega (
+        arith,
+        l.invariant.2.ends,
+        row-counted _ _ _ _ _ w,
+        room (goal.at.put_row-p-requires c).Start (l.k + 1) (omega (arith, r.loop-k-test.true)),
+        put-room l.invariant.2 (room (goal.at.put_row-p-requires c).Start l.k l.invariant.1),
+      );
+    }
 
 pub loop-k-preserved : goal.loop-k-preserved
 loop-k-preserved c =

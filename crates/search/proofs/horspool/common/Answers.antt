@@ -1,6 +1,5 @@
 -- `search::horspool::common` meets its contract. The loop's invariant: the first `i` bytes agree. The measure is what is left
 -- of the mark. Assumes nothing.
-use Prim.Native.Nat.{◌-◌}
 use mathlib.Core.Path.{sym, ◌∙◌}
 use native.Mathlib.Omega.{arith}
 use borrow.Author.Tests.{not-false}

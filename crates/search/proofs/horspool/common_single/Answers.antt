@@ -1,6 +1,5 @@
 -- `search::horspool::common_single` meets its contract. The loop's invariant: the first `i` bytes agree. The measure is what
 -- is left of the mark. Assumes nothing.
-use Prim.Native.Nat.{◌-◌}
 use native.Mathlib.Omega.{arith}
 use Rattle.search.proofs.Shifts.{agreed-none, agreed-next, agreed-stop, agreed-all}
 use Rattle.search.proofs.horspool.common_single.Goals as goal

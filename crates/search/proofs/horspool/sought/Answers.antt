@@ -1,6 +1,5 @@
 -- `search::horspool::sought` meets its contract. The loop's invariant: the mark does not begin before `place`, and what was
 -- counted is the count up to there, at most one a byte. The measure is what is left of the bytes. Assumes nothing.
-use Prim.Native.Nat.{◌-◌}
 use native.Mathlib.Omega.{arith}
 use Rattle.search.proofs.Laws.{passed_none, part_length}
 use Rattle.search.proofs.Shifts.{sought-here, sought-next, sought-end}

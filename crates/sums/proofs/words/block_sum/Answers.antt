@@ -1,7 +1,7 @@
 -- `sums::words::block_sum` meets its contract. The loop's invariant: `all` and `even` are of the words before the place `at`
 -- of both runs, a word for every four bytes of `at`. The measure is what is left of a run. That `even` fits is read off the
 -- lanes. Assumes nothing.
-use Rattle.std.proofs.Common.{◌≡◌, ℕ, ◌+◌, ◌-◌, ◌/◌, ◌%◌, ◌<◌, ◌≤◌, refl, le-add_right, arith, take_all}
+use Rattle.std.proofs.Common.{◌≡◌, ℕ, ◌+◌, ◌/◌, ◌%◌, ◌<◌, ◌≤◌, refl, le-add_right, arith, take_all}
 use Rattle.metafile.specs.Bytes.{total}
 use Rattle.sums.proofs.Laws.{total-part}
 use Rattle.sums.proofs.Lanes.{words-none, words-next, words-most, words_same, words-fit}

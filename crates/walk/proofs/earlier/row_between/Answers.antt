@@ -1,5 +1,5 @@
 -- `walk::earlier::row_between` meets its contract. Assumes nothing.
-use Prim.Native.Nat.{◌-◌, ◌<◌}
+use Prim.Native.Nat.{◌<◌}
 use mathlib.Core.Path.{◌≡◌}
 use lib.ListN.{length}
 use Rattle.metafile.specs.Reading.{rows_of}

@@ -1,5 +1,4 @@
 -- `walk::known::last` meets its contract. Assumes nothing.
-use Prim.Native.Nat.{◌-◌}
 use mathlib.Core.Path.{sym, ◌∙◌}
 use Rattle.walk.proofs.Index.{index-long}
 use Rattle.walk.proofs.Cursors.{there}

@@ -1,5 +1,4 @@
 -- `walk::lookahead::clear` meets its contract. Assumes nothing.
-use Prim.Native.Nat.{◌-◌}
 use mathlib.Core.Path.{sym, ◌∙◌}
 use lib.ListN.{length-set}
 use native.Mathlib.Omega.{arith}

@@ -1,5 +1,5 @@
 -- `walk::lookahead::compare` meets its contract. Assumes nothing.
-use Prim.Native.Nat.{◌-◌, ◌<◌}
+use Prim.Native.Nat.{◌<◌}
 use lib.ListN.{length}
 use native.Mathlib.Omega.{arith}
 use Rattle.metafile.specs.Reading.{rows_of}

@@ -1,6 +1,4 @@
 -- `walk::lookahead::hashed` meets its contract. Assumes nothing.
-use Prim.Native.Nat.{◌-◌}
-use mathlib.Core.Logic.{⊎_elim}
 use mathlib.Core.Path.{refl, sym, ◌∙◌}
 use native.Mathlib.Omega.{arith}
 use Rattle.filter.proofs.Laws.{covering-long}
@@ -32,10 +30,10 @@ loop-t-preserved c =
     let words = l.loop-t.words in
     let inside = l.loop-t-test.true in
     elim c.if-place-file.branch [
-      then-place-file w ↦
-        rw (w.words-is ∙ w.mark.ensures) (hashed-more _ _ inv.0 inside _ refl inv.1, covering-long _ words ∙ inv.1)
-    | else-place-file w ↦
-        rw w.words-is (hashed-far _ _ inv.0 inside _ refl (λ y. omega (arith, w.if-place-file.false)), inv.1)
+      | then-place-file w ↦
+          rw (w.words-is ∙ w.mark.ensures) (hashed-more _ _ inv.0 inside _ refl inv.1, covering-long _ words ∙ inv.1)
+      | else-place-file w ↦
+          rw w.words-is (hashed-far _ _ inv.0 inside _ refl (λ y. omega (arith, w.if-place-file.false)), inv.1)
     ]
 
 pub shape_of-words : goal.shape_of-words

@@ -1,6 +1,5 @@
 -- `walk::surveys::note` meets its contract. Assumes nothing.
-use Prim.Native.Nat.{◌+◌, ◌-◌, ◌≤◌, ◌<◌}
-use mathlib.Core.Logic.{⊎_elim}
+use Prim.Native.Nat.{◌+◌, ◌≤◌, ◌<◌}
 use mathlib.Core.Path.{◌≡◌, refl, ◌∙◌}
 use mathlib.Core.List.{◌++◌}
 use native.Mathlib.Omega.{arith}
@@ -49,8 +48,8 @@ passed c =
     let values : l.loop-j.j < length l.loop-j.values = omega arith in
     let rows : l.loop-j.j < length l.args.rows.now = omega arith in
     elim c.if-rows-j.branch [
-      then-rows-j w ↦ note-here _ _ _ _ _ _ l.loop-j.invariant.3 values rows _ w.values-is w.if-rows-j.true
-    | else-rows-j w ↦ note-other _ _ _ _ _ _ l.loop-j.invariant.3 values rows _ w.values-is w.if-rows-j.false
+      | then-rows-j w ↦ note-here _ _ _ _ _ _ l.loop-j.invariant.3 values rows _ w.values-is w.if-rows-j.true
+      | else-rows-j w ↦ note-other _ _ _ _ _ _ l.loop-j.invariant.3 values rows _ w.values-is w.if-rows-j.false
     ]
 
 pub loop-j-preserved : goal.loop-j-preserved

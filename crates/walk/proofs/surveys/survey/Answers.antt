@@ -1,5 +1,4 @@
 -- `walk::surveys::survey` meets its contract. Assumes nothing.
-use Prim.Native.Nat.{◌-◌}
 use mathlib.Core.Path.{sym, ◌∙◌}
 use Rattle.metafile.specs.Reading.{rows_of}
 use Rattle.walk.proofs.Index.{indexed-none, index-long}

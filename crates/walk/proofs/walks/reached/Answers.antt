@@ -1,5 +1,4 @@
 -- `walk::walks::reached` meets its contract. Assumes nothing.
-use Prim.Native.Nat.{◌-◌}
 use mathlib.Core.Path.{sym, ◌∙◌}
 use Rattle.walk.proofs.Index.{indexed-more, index-long}
 use Rattle.walk.proofs.Cursors.{There, there, stops}

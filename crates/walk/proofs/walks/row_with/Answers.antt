@@ -1,5 +1,4 @@
 -- `walk::walks::row_with` meets its contract. Assumes nothing.
-use Prim.Native.Nat.{◌-◌}
 use mathlib.Core.Path.{sym, ◌∙◌}
 use Rattle.metafile.specs.Reading.{rows_of}
 use Rattle.walk.proofs.Index.{index-long}

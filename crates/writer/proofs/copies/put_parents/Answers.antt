@@ -17,7 +17,6 @@ use Rattle.writer.proofs.copies.put_parents.Goals.{Start, In-loop-i}
 file-long : (s : Start) → size (take s.args.length s.args.buffer.now) ≡ s.args.length
 file-long s = length-take-le s.args.length s.args.buffer.now (omega (arith, s.requires.length_le_at.0, s.requires.length_le_at.1))
 
-
 -- the row named at this turn
 
 inside : (c : In-loop-i) → c.loop-i.i < size c.args.parents.now
