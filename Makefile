@@ -48,15 +48,14 @@ PACKAGE = $(shell cd python && find ads_metafile -type f ! -name '*.pyc' | LC_AL
 all: static
 	@$(MAKE) --no-print-directory shared
 
-# The archive is up to date where no source is newer. `rt check` proves on all cores, `rt staticlib` then builds.
+# The archive is up to date where no source is newer.
 static:
-	@if [ -e $(ARCHIVE) ] && [ -z "$$(find crates.txt crates -newer $(ARCHIVE) \
+	@if [ -e $(ARCHIVE) ] && [ -z "$$(find crates.txt crates -name out -prune -o -newer $(ARCHIVE) \
 	    \( -name crates.txt -o -name '*.rt' -o -name '*.antt' \) -print -quit)" ]; then
 	    exit 0
 	fi
 	command -v rt > /dev/null || { echo "make: rt, which proves and builds the library, isn't installed" >&2; exit 1; }
-	rt check ads
-	rt staticlib ads
+	tools/staticlib ads
 	touch $(ARCHIVE)
 
 shared: $(BUILT)/$(REAL) $(BUILT)/$(SONAME) $(BUILT)/libads.so
@@ -81,7 +80,7 @@ $(BUILT)/$(REAL): $(ARCHIVE) include/ads.h Makefile
 	mv -f $@.new $@
 
 $(BUILT)/$(SONAME) $(BUILT)/libads.so: $(BUILT)/$(REAL)
-	@ln -sfn $(REAL) $@
+	@ln -f $(BUILT)/$(REAL) $@
 
 # ---- try
 

@@ -1,7 +1,7 @@
 #!/usr/bin/env python3
 """The program `listing` on files that are built field by field (metafile_bytes.py), each beside the listing that the
-scope paper asks for, worked out by hand. Run in the repository's folder, with target/bin/listing there: it says which
-text differs.
+scope paper asks for, worked out by hand. Run in the repository's folder, with crates/listing/out/listing there: it says
+which text differs.
 
 The first case is the stored input and output of crates/listing, which `rt ci` runs itself.
 """
@@ -62,7 +62,7 @@ def main() -> int:
         wrong += 1
         print("crates/listing: its stored input or output isn't the first case")
     for name, (given, asked) in CASES.items():
-        answer = subprocess.run(["target/bin/listing"], input=given, stdout=subprocess.PIPE, check=True).stdout
+        answer = subprocess.run(["crates/listing/out/listing"], input=given, stdout=subprocess.PIPE, check=True).stdout
         if answer != asked.encode("ascii"):
             wrong += 1
             print(f"{name}: the program prints {answer!r}, asked is {asked!r}")

@@ -14,7 +14,7 @@ fn main() {
     for library in ["ads", "kernels"] {
         let archive = folder.join(format!("lib{library}.a"));
         if !archive.is_file() {
-            panic!("no {}: `rt staticlib {library}` first, or name its folder in ADS_LIB_DIR", archive.display());
+            panic!("no {}: `tools/staticlib {library}` first, or name its folder in ADS_LIB_DIR", archive.display());
         }
         println!("cargo:rerun-if-changed={}", archive.display());
         println!("cargo:rustc-link-lib=static={library}");

@@ -5,7 +5,7 @@ from pathlib import Path
 
 ROOT = Path(__file__).resolve().parents[2]
 DOCUMENTS = ["docs/ARCHITECTURE.md", "docs/FORMAT.md", "docs/SPEED.md", "docs/TRUST.md", "samples/README.md"]
-CRATES = re.findall(r"^(\w+):", (ROOT / "crates.txt").read_text(encoding="utf-8"), re.MULTILINE)
+CRATES = re.findall(r"^(\w+)(?: staticlib)?:", (ROOT / "crates.txt").read_text(encoding="utf-8"), re.MULTILINE)
 MADE = {"target"}
 """Folders that a build makes."""
 
