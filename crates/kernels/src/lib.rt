@@ -1,4 +1,4 @@
-// Inner functions for the comparison and the benchmark to call: `rt staticlib kernels`. They are no part of libads.a and
+// Inner functions for the comparison and the benchmark to call: `tools/staticlib kernels`. They are no part of libads.a and
 // not in include/ads.h. Each has the contract of the function that it is thin over.
 #![tactic(auto)]
 

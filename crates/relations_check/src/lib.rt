@@ -4,10 +4,10 @@
 // time as a directory of their serial numbers has room for, and every line is looked up among them. On a refusal nothing is
 // written. The contracts cite relations_check, relations_check_latest and the two answers of the crate metafile (specs/Relations,
 // Answers).
-//     row      the row at which a cursor stands
-//     latest   the relation chunk that holds
+//     row          the row at which a cursor stands
+//     latest       the relation chunk that holds
 //     text_lines   the lines of the text: counted, judged
-//     window   rows in a directory
+//     window       rows in a directory
 #![tactic(auto)]
 
 ghost use Rattle.std.specs.Prelude.{◌≡◌, ◌≤◌, length};
