@@ -228,20 +228,18 @@ def packed(file: bytes) -> bytes:
     return b"".join(block(place // 504, file[place:place + 504]) for place in range(0, max(len(file), 1), 504))
 
 
-def in_blocks() -> dict[str, bytes]:
-    """A packed file, and a copy of it whose second block came back as zeros."""
-    blocks = packed(one_chunk())
-    return {"one-chunk": blocks, "damaged-28-lost-block": blocks[:512] + bytes(512) + blocks[1024:]}
-
-
 def samples() -> dict[str, bytes]:
     """Every sample file: name and bytes."""
     made = good() | damaged_header() | damaged_chunk() | damaged_multichunk() | power_failures()
-    named = {name + ".ads": data for name, data in made.items()}
-    named |= {name + ".blocks": data for name, data in in_blocks().items()}
-    return {name: named[name] for name in sorted(named)}
+    return {name + ".ads": made[name] for name in sorted(made)}
+
+
+def in_blocks() -> dict[str, bytes]:
+    """The damaged copy of a packed file, its second block zeros: name and bytes."""
+    blocks = packed(one_chunk())
+    return {"damaged-28-lost-block.blocks": blocks[:512] + bytes(512) + blocks[1024:]}
 
 
 if __name__ == "__main__":
-    for file_name, file_bytes in samples().items():
+    for file_name, file_bytes in (samples() | in_blocks()).items():
         (FOLDER / file_name).write_bytes(file_bytes)

@@ -19,9 +19,12 @@ Text: TypeAlias = str | bytes
 
 MOST_BYTES = 2**30
 SONAME = "libads.so.0"
-VERSION_NODE = "ADS_0.10"
-NEWEST = "ads_pack"
+VERSION_NODE = "ADS_0.9"
+NEWEST = "ads_ancestors"
 """The version that the package needs, and a function that has it."""
+BLOCKS_NODE = "ADS_0.10"
+BLOCKS = "ads_pack"
+"""The same for the blocks, asked once all functions of before are there."""
 _REMEDY = f"run `make` in the repository, or set ADS_LIBRARY to the path of {SONAME}"
 
 
@@ -101,8 +104,6 @@ _SIGNATURES: dict[str, tuple[Any, ...]] = {
     "ads_relations_check_latest": (CountedRow, *_LENT, *_LENT),
     "ads_price": (Priced, *_LENT, c_uint64, c_uint64, *_LENT),
     "ads_listing": (Written, *_LENT, *_LENT),
-    "ads_pack": (Written, *_LENT, *_LENT),
-    "ads_unpack": (Written, *_LENT, *_LENT),
     "ads_append": (Ends, *_LENT, c_size_t, DescriptionStruct, *_LENT, *_LENT, *_LENT, c_bool),
     "ads_description_new": (DescriptionStruct,),
     "ads_sub_format": (*_CHANGED, *_TEXT),
@@ -112,6 +113,9 @@ _SIGNATURES: dict[str, tuple[Any, ...]] = {
     f"ads_{name}": (*_CHANGED, _WORD)
     for name in ("generic_type", "synch_type", "time_standard", "alternate_standard", "time_offset", "event_synch",
                  "slave_event", "master_event", "serial_number")
+} | {
+    "ads_pack": (Written, *_LENT, *_LENT),
+    "ads_unpack": (Written, *_LENT, *_LENT),
 }
 
 
@@ -128,15 +132,15 @@ def _path() -> str:
     return next(filter(os.path.isfile, beside), SONAME)
 
 
-def _check_version(library: ctypes.CDLL, path: str) -> None:
-    """Refuses a library without the version that the package needs, where the C library can tell."""
+def _check_version(library: ctypes.CDLL, path: str, name: str, node: str) -> None:
+    """Refuses a library without a version that the package needs, where the C library can tell."""
     find = getattr(ctypes.CDLL(None), "dlvsym", None)
     if find is None:
         return
     find.restype, find.argtypes = c_void_p, (c_void_p, c_char_p, c_char_p)
-    if find(library._handle, NEWEST.encode(), VERSION_NODE.encode()) is None:
+    if find(library._handle, name.encode(), node.encode()) is None:
         found = "an older libads, or one without versions" if hasattr(library, "ads_read") else "no libads"
-        raise ImportError(f"{path} is {found}: this package needs version {VERSION_NODE}; {_REMEDY}")
+        raise ImportError(f"{path} is {found}: this package needs version {node}; {_REMEDY}")
 
 
 @cache
@@ -147,8 +151,10 @@ def _library() -> ctypes.CDLL:
         library = ctypes.CDLL(path)
     except OSError as error:
         raise ImportError(f"the library libads can't be loaded: {error}; {_REMEDY}") from None
-    _check_version(library, path)
+    _check_version(library, path, NEWEST, VERSION_NODE)
     for name, (answer, *given) in _SIGNATURES.items():
+        if name == BLOCKS:
+            _check_version(library, path, BLOCKS, BLOCKS_NODE)
         if not hasattr(library, name):
             raise ImportError(f"{path} is no whole libads: it has no {name}; {_REMEDY}")
         function = getattr(library, name)

@@ -191,10 +191,15 @@ fn refusals() {
 fn numbers_of_refusals() {
     for number in 0..=u8::MAX {
         let refusal = Refusal::from_number(number);
-        assert_eq!(refusal.is_some(), (1..=29).contains(&number) && ![22, 25, 26].contains(&number));
+        if number < 25 {
+            assert_eq!(refusal.is_some(), (1..=24).contains(&number) && number != 22);
+        } else {
+            assert_eq!(refusal.is_some(), (27..=29).contains(&number));
+        }
         assert!(refusal.is_none_or(|refusal| refusal.number() == number && u8::from(refusal) == number));
     }
-    assert!(Refusal::Title < Refusal::BlockUse);
+    assert!(Refusal::Title < Refusal::Circle);
+    assert!(Refusal::Circle < Refusal::BlockSum && Refusal::BlockSum < Refusal::BlockUse);
     let error: Box<dyn std::error::Error> = Refusal::NotClean.into();
     assert_eq!(error.to_string(), "the file isn't clean (12)");
 }

@@ -10,12 +10,13 @@ import mmap
 import os
 import random
 import resource
+import subprocess
 import sys
 import unittest
 from contextlib import redirect_stderr
 from unittest import mock
 
-from running import CommandTest, Ended
+from running import CommandTest, Ended, environment, header_options
 from support import REPOSITORY
 
 sys.path.insert(0, str(REPOSITORY / "samples"))
@@ -23,14 +24,24 @@ sys.path.insert(0, str(REPOSITORY / "samples"))
 import ads_metafile  # noqa: E402
 from ads_metafile import Refused, _blocks, pack, unpack  # noqa: E402
 from ads_metafile.command import main  # noqa: E402
-from make import block, packed, samples  # noqa: E402
+from make import block, in_blocks, packed, samples  # noqa: E402
 
-SAMPLES = samples()
+SAMPLES = samples() | in_blocks()
 FILE = SAMPLES["one-chunk.ads"]
-BLOCKS = SAMPLES["one-chunk.blocks"]
+BLOCKS = packed(FILE)
 HINT = "the copy is damaged, or was never a packed file; nothing was written"
 LENGTHS = ("unpacks to {:,} bytes, and --length says {:,}: the copy isn't whole, or the length is another file's; "
            "nothing was written")
+
+NO_LINKS = """
+import errno, os, sys
+sys.path.insert(0, sys.argv.pop(1))
+from ads_metafile.command import entry
+def link(*names):
+    raise OSError(errno.EPERM, "")
+os.link = link
+entry()
+"""
 
 
 def summed(data: bytes) -> bytes:
@@ -231,6 +242,18 @@ class Command(CommandTest):
             for out in (file, "hard", "b", "none", "to nowhere", "folder"):
                 self.refused(3, f"{out}: exists already, and is never overwritten; give another name",
                              subcommand, file, out)
+
+    def test_no_links(self) -> None:
+        """As on FAT: the file is renamed, and never over another one; begin is refused."""
+        begin = ["begin", "d.ads", *header_options()]
+        for arguments, errors in ((["pack", "a.ads", "b"], ""), (["unpack", "b", "c.ads"], ""),
+                                  (["pack", "a.ads", "c.ads"], "c.ads: exists already, and is never overwritten; give "
+                                   "another name"), (begin, "d.ads: operation not permitted; nothing was begun")):
+            ran = subprocess.run([sys.executable, "-c", NO_LINKS, str(REPOSITORY / "python"), *arguments],
+                                 cwd=self.folder, env=environment(), capture_output=True, text=True, timeout=60)
+            self.assertEqual((ran.returncode, ran.stderr), (3, f"ads: {errors}\n") if errors else (0, ""))
+        self.assertEqual(self.names(), ["a.ads", "a.blocks", "b", "c.ads"])
+        self.assertEqual((self.path("b").read_bytes(), self.path("c.ads").read_bytes()), (BLOCKS, FILE))
 
     def test_no_folder(self) -> None:
         for subcommand, file in (("pack", "a.ads"), ("unpack", "a.blocks")):

@@ -27,8 +27,8 @@ NAMES = {
     b'"\t".ads': '"\\"\\t\\".ads"',
     b"%s{}.ads": "%s{}.ads",
 }
-SUBCOMMANDS = ["list", "check", "contents", "parents", "ancestors", "gather", "relations", "price", "pack", "unpack",
-               "fields", "begin", "append", "cut-back"]
+SUBCOMMANDS = ["list", "check", "contents", "parents", "ancestors", "gather", "relations", "price", "fields", "begin",
+               "append", "cut-back"] + ["pack", "unpack"]
 
 
 class Names(CommandTest):

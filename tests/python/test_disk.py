@@ -120,7 +120,13 @@ class Create(DiskTest):
         self.assertEqual(sorted(os.listdir(self.folder)), ["a.ads", "new.ads"])
 
     def test_no_links(self) -> None:
-        """As on FAT: the file is renamed, and never over another one."""
+        with mock.patch("os.link", side_effect=OSError(errno.EPERM, "")), self.assertRaisesRegex(
+                disk.DiskError, "operation not permitted; nothing was begun"):
+            disk.create(str(self.folder / "new.ads"), begun())
+        self.assertEqual(os.listdir(self.folder), ["a.ads"])
+
+    def test_no_links_but_a_rename(self) -> None:
+        """As pack and unpack on FAT: the file is renamed, and never over another one."""
         path = str(self.folder / "new.ads")
 
         def link(temporary: str, name: str) -> None:
@@ -128,12 +134,12 @@ class Create(DiskTest):
             raise OSError(errno.EPERM, "")
 
         with mock.patch("os.link", side_effect=OSError(errno.EPERM, "")):
-            disk.create(path, begun())
+            disk.create(path, begun(), rename=True)
         self.assertEqual(Path(path).read_bytes(), begun())
         self.assertEqual(sorted(os.listdir(self.folder)), ["a.ads", "new.ads"])
         os.unlink(path)
         with mock.patch("os.link", link), self.assertRaisesRegex(disk.DiskError, "exists already, and is never overwritten"):
-            disk.create(path, begun())
+            disk.create(path, begun(), rename=True)
         self.assertEqual(Path(path).read_bytes(), b"by another")
         self.assertEqual(sorted(os.listdir(self.folder)), ["a.ads", "new.ads"])
 
@@ -144,7 +150,7 @@ class Create(DiskTest):
                 with (mock.patch("os.link", side_effect=OSError(errno.EPERM, "")), mock.patch("ctypes.CDLL", **failed),
                       mock.patch("ctypes.get_errno", return_value=errno.EINVAL),
                       self.assertRaisesRegex(disk.DiskError, f"operation not permitted; {said}")):
-                    disk.create(str(self.folder / "new.ads"), begun(), *done)
+                    disk.create(str(self.folder / "new.ads"), begun(), *done, rename=True)
         self.assertEqual(os.listdir(self.folder), ["a.ads"])
 
 

@@ -194,7 +194,8 @@ class Numbers(unittest.TestCase):
         listed = [row.split("\t") for row in rows if not row.startswith("0\t")]
         here = [cells(line)[:3] for line in FORMAT.splitlines() if re.match(r"\| \d+ \| [A-Z_]+\d* \|", line)]
         self.assertEqual(here, listed)
-        self.assertEqual([row[0] for row in here], [str(number) for number in (*range(1, 22), 23, 24, 27, 28, 29)])
+        self.assertEqual([row[0] for row in here], [str(number) for number in (*range(1, 22), 23, 24)]
+                         + ["27", "28", "29"])
 
 
 class WorkedExamples(unittest.TestCase):

@@ -61,8 +61,8 @@ def enums() -> list[list[tuple[str, int]]]:
 class List(unittest.TestCase):
     def test_order(self) -> None:
         """No call gives 22, 25 and 26."""
-        self.assertEqual(list(listed()), [*range(22), 23, 24, 27, 28, 29])
-        self.assertEqual(len({name for name, _ in listed().values()}), 27)
+        self.assertEqual(list(listed()), [*range(22), 23, 24] + [27, 28, 29])
+        self.assertEqual(len({name for name, _ in listed().values()}), 24 + 3)
 
     def test_words_fit_into_a_message(self) -> None:
         for name, words in listed().values():

@@ -89,13 +89,23 @@ class Found(unittest.TestCase):
         self.assertEqual(self.answer(ADS_LIBRARY="", LD_LIBRARY_PATH=str(LIBRARY.parent)), "1 libads.so.0")
 
     def test_older(self) -> None:
-        older = self.library("void ads_read(void) {}", "ADS_0.9 { global: ads_*; local: *; };")
+        older = self.library("void ads_read(void) {}", "ADS_0.8 { global: ads_*; local: *; };")
         self.assertRegex(self.answer(ADS_LIBRARY=older),
-                         r"libother.so is an older libads.*needs version ADS_0\.10;.*`make`")
-        part = self.library("void ads_pack(void) {}", "ADS_0.10 { global: ads_*; local: *; };")
+                         r"libother.so is an older libads.*needs version ADS_0\.9.*`make`")
+        part = self.library("void ads_ancestors(void) {}", "ADS_0.9 { global: ads_*; local: *; };")
         self.assertRegex(self.answer(ADS_LIBRARY=part), "libother.so is no whole libads: it has no ads_begin.*`make`")
         none = self.library("void other(void) {}", "OTHER { global: other; local: *; };")
         self.assertRegex(self.answer(ADS_LIBRARY=none), "libother.so is no libads.*`make`")
+
+    def test_before_the_blocks(self) -> None:
+        names = [name for name in _library._SIGNATURES if name not in ("ads_pack", "ads_unpack")]
+        functions = "".join(f"void {name}(void) {{}}\n" for name in names)
+        before = self.library(functions, "ADS_0.9 { global: ads_*; local: *; };")
+        self.assertRegex(self.answer(ADS_LIBRARY=before),
+                         r"libother.so is an older libads.*needs version ADS_0\.10;.*`make`")
+        part = self.library(functions + "void ads_pack(void) {}",
+                            "ADS_0.9 { global: ads_ancestors; }; ADS_0.10 { global: ads_*; local: *; };")
+        self.assertRegex(self.answer(ADS_LIBRARY=part), "libother.so is no whole libads: it has no ads_unpack.*`make`")
 
 
 class Layout(unittest.TestCase):

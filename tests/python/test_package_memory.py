@@ -119,14 +119,20 @@ class Views(unittest.TestCase):
                          lambda: opened.relations_check(0), lambda: file.relations_check(0),
                          lambda: opened.relations_check_latest(), lambda: file.relations_check_latest(),
                          lambda: opened.price(10**18, 0), lambda: file.price(10**18, 0), lambda: file.price(-1, 0),
-                         lambda: ads_metafile.unpack(data),
                          lambda: ads_metafile.append_into(data, 1178, support.description(), data)):
                 try:
                     call()
                 except (Refused, ValueError) as error:
                     kept.append(error)
         data.clear()
-        self.assertEqual(len(kept), 15)
+        self.assertEqual(len(kept), 14)
+
+    def test_a_kept_refusal_of_blocks_holds_no_bytes(self) -> None:
+        data = bytearray(SAMPLE.read_bytes())
+        with self.assertRaises(Refused) as kept:
+            ads_metafile.unpack(data)
+        data.clear()
+        self.assertEqual(kept.exception.number, ads_metafile.BLOCK_SUM)
 
     def test_bytes_of_read_stay_the_callers(self) -> None:
         data = bytearray(SAMPLE.read_bytes())

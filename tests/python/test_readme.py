@@ -14,7 +14,7 @@ from pathlib import Path
 from support import LIBRARY, REPOSITORY
 
 README = (REPOSITORY / "README.md").read_text(encoding="utf-8")
-MOST_LINES = 135
+MOST_LINES = 125
 AROUND = """#include <stdio.h>
 {include}
 static uint8_t file[4096];
@@ -61,19 +61,25 @@ class Lines(unittest.TestCase):
         parts = "header 367\nchunks 6847\nunread 0\n"
         said = [self.run_in(self.folder, "sh", "-c", line, beside=parts if line.startswith("ads price") else "",
                             PATH=path) for line in code("The command")]
-        self.assertEqual(len(said), 14)
+        self.assertEqual(len(said), 12)
         self.assertIn("4 chunks; clean: all 7,214 bytes read", said[0])
         self.assertEqual(said[1], "survey.ads: clean, 4 chunks, all sums good\n")
         self.assertEqual((self.folder / "depths.txt").read_text(), "12.5\n12.7\n")
         self.assertEqual((self.folder / "deps.tsv").read_bytes().count(b"\nADS relation\t"), 4)
         self.assertRegex(said[4], r"^3  #.*\n(  .*\n){4}2 rows; dependencies that name no row: 1\n$")
         self.assertRegex(said[7], r"^0 36 107\n(.*\n){3}total \d+\n$")
-        self.assertEqual(said[8], "survey.ads: 7,214 bytes packed into 15 blocks of 512; carry the length beside the "
-                         "copy: 7214\n")
-        self.assertEqual(said[9], "survey.blocks: 15 blocks of 512 unpacked into 7,214 bytes\n")
+        self.assertRegex(said[10], r"^row 0 appended: 319 to 1,223, serial #")
+        self.assertEqual(said[11], "new.ads: clean, 1 chunk; nothing is to be cut\n")
+
+    def test_the_blocks(self) -> None:
+        (self.folder / "bin").mkdir()
+        (self.folder / "bin/ads").symlink_to(REPOSITORY / "python/bin/ads")
+        shutil.copy(REPOSITORY / "samples/survey.ads", self.folder)
+        path = f"{self.folder}/bin:{os.environ['PATH']}"
+        said = [self.run_in(self.folder, "sh", "-c", line, PATH=path) for line in code("Blocks")]
+        self.assertEqual(said, ["survey.ads: 7,214 bytes packed into 15 blocks of 512; carry the length beside the "
+                                "copy: 7214\n", "survey.blocks: 15 blocks of 512 unpacked into 7,214 bytes\n"])
         self.assertEqual((self.folder / "copy.ads").read_bytes(), (self.folder / "survey.ads").read_bytes())
-        self.assertRegex(said[12], r"^row 0 appended: 319 to 1,223, serial #")
-        self.assertEqual(said[13], "new.ads: clean, 1 chunk; nothing is to be cut\n")
 
     def test_the_price(self) -> None:
         """The example of three lines."""

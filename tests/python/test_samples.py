@@ -1,5 +1,5 @@
 """samples/: every file is what make.py makes, reads as README.md says, and `ads check` prints the line that is there;
-packed ones unpack as it says.
+the packed one is refused as it says.
 
 The examples of docs/FORMAT.md that need the library are tried here too. It rests on the package, the command and the
 shared library, which is found as the package finds it.
@@ -22,7 +22,7 @@ import make  # noqa: E402
 import listings  # noqa: E402
 from support import begun, description  # noqa: E402
 
-MOST_BYTES = 115_000
+MOST_BYTES = 110_000
 
 
 class Told(NamedTuple):
@@ -34,49 +34,27 @@ class Told(NamedTuple):
     said: str
 
 
-class ToldOfBlocks(NamedTuple):
-    """A line about a packed file."""
-    name: str
-    blocks: int
-    length: int
-    number: int
-    said: str
-
-
-def lines(ending: str) -> list[tuple[str, int, int, int, str]]:
-    line = re.compile(rf"^\| `([\w-]+\.{ending})` \| [^|]+ \| (\d+) \| (\d+) \| (\d+) \| `([^`]+)` \|$", re.MULTILINE)
-    found = line.findall((SAMPLES / "README.md").read_text(encoding="utf-8"))
-    return [(name, int(first), int(second), int(number), said) for name, first, second, number, said in found]
-
-
 def told() -> list[Told]:
-    return [Told(*line) for line in lines("ads")]
-
-
-def told_of_blocks() -> list[ToldOfBlocks]:
-    return [ToldOfBlocks(*line) for line in lines("blocks")]
-
-
-def ads(*arguments: str) -> subprocess.CompletedProcess[str]:
-    command = [sys.executable, "-B", str(ROOT / "python" / "bin" / "ads"), *arguments]
-    return subprocess.run(command, cwd=SAMPLES, capture_output=True, text=True, timeout=60)
+    line = re.compile(r"^\| `([\w-]+\.ads)` \| [^|]+ \| (\d+) \| (\d+) \| (\d+) \| `([^`]+)` \|$", re.MULTILINE)
+    found = line.findall((SAMPLES / "README.md").read_text(encoding="utf-8"))
+    return [Told(name, int(rows), int(stop), int(number), said) for name, rows, stop, number, said in found]
 
 
 def check(*names: str) -> subprocess.CompletedProcess[str]:
-    return ads("check", *names)
+    command = [sys.executable, "-B", str(ROOT / "python" / "bin" / "ads"), "check", *names]
+    return subprocess.run(command, cwd=SAMPLES, capture_output=True, text=True, timeout=60)
 
 
 class Files(unittest.TestCase):
     def test_the_folder_has_what_make_makes(self) -> None:
-        found = {path.name: path.read_bytes() for path in SAMPLES.iterdir() if path.suffix in (".ads", ".blocks")}
-        self.assertEqual(found, make.samples())
+        self.assertEqual({path.name: path.read_bytes() for path in SAMPLES.glob("*.ads")}, make.samples())
 
     def test_the_readme_names_every_file_once(self) -> None:
-        self.assertEqual(sorted(line.name for line in (*told(), *told_of_blocks())), sorted(make.samples()))
+        self.assertEqual(sorted(line.name for line in told()), sorted(make.samples()))
 
     def test_every_number_of_a_fault_has_a_sample(self) -> None:
         self.assertEqual({line.number for line in told()}, set(range(10)))
-        for line in (*told(), *told_of_blocks()):
+        for line in told():
             named = re.match(r"damaged-(\d\d)-", line.name)
             self.assertEqual(int(named[1]) if named else 0, line.number, line)
 
@@ -143,29 +121,28 @@ class Check(unittest.TestCase):
 
 
 class Blocks(unittest.TestCase):
-    def test_each_unpacks_as_told(self) -> None:
-        self.assertEqual([line.number for line in told_of_blocks()], [0, 28])
-        for line in told_of_blocks():
-            packed = (SAMPLES / line.name).read_bytes()
-            self.assertEqual(len(packed), 512 * line.blocks, line)
-            try:
-                found = len(ads_metafile.unpack(packed)), 0
-            except ads_metafile.Refused as refused:
-                found = 0, refused.number
-            self.assertEqual(found, (line.length, line.number), line)
+    """The packed file that is damaged."""
 
-    def test_the_packed_file_is_that_of_a_sample(self) -> None:
-        file, packed = ((SAMPLES / name).read_bytes() for name in ("one-chunk.ads", "one-chunk.blocks"))
-        self.assertEqual((ads_metafile.pack(file), ads_metafile.unpack(packed)), (packed, file))
+    def test_the_file(self) -> None:
+        self.assertEqual({path.name: path.read_bytes() for path in SAMPLES.glob("*.blocks")}, make.in_blocks())
+        file = (SAMPLES / "one-chunk.ads").read_bytes()
+        self.assertEqual((ads_metafile.pack(file), ads_metafile.unpack(make.packed(file))), (make.packed(file), file))
 
-    def test_unpack_says_what_the_readme_has(self) -> None:
-        for line in told_of_blocks():
+    def test_it_is_refused_as_told(self) -> None:
+        line = re.compile(r"^\| `([\w-]+\.blocks)` \| [^|]+ \| (\d+) \| (\d+) \| `([^`]+)` \|$", re.MULTILINE)
+        found = line.findall((SAMPLES / "README.md").read_text(encoding="utf-8"))
+        self.assertEqual([name for name, *_ in found], list(make.in_blocks()))
+        for name, blocks, number, said in found:
+            packed = (SAMPLES / name).read_bytes()
+            self.assertEqual((len(packed), f"damaged-{number}-"), (512 * int(blocks), name[:11]))
+            with self.assertRaises(ads_metafile.Refused) as refused:
+                ads_metafile.unpack(packed)
+            self.assertEqual(refused.exception.number, int(number))
             with tempfile.TemporaryDirectory() as folder:
-                run = ads("unpack", line.name, f"{folder}/out")
-                said = f"{line.name}: {line.said}\n"
-                self.assertEqual((run.returncode, run.stdout, run.stderr),
-                                 (1, "", "ads: " + said) if line.number else (0, said, ""))
-                self.assertEqual(len(list(Path(folder).iterdir())), 0 if line.number else 1)
+                command = [sys.executable, "-B", str(ROOT / "python" / "bin" / "ads"), "unpack", name, f"{folder}/out"]
+                run = subprocess.run(command, cwd=SAMPLES, capture_output=True, text=True, timeout=60)
+                self.assertEqual((run.returncode, run.stdout, run.stderr), (1, "", f"ads: {name}: {said}\n"))
+                self.assertEqual(list(Path(folder).iterdir()), [])
 
 
 class FormatExamples(unittest.TestCase):

@@ -44,9 +44,10 @@ def run_unpack(options: Namespace, earned: Earned) -> None:
 
 
 def put_new(path: str, data: bytes) -> None:
-    """Writes the new file. From its first byte on signals are held back, to the end of the command."""
+    """Writes the new file, also where there are no links, as on FAT. From its first byte on signals are held back, to
+    the end of the command."""
     hold_signals()
-    create(path, data, "written")
+    create(path, data, "written", rename=True)
 
 
 def blocks(packed: bytes | memoryview) -> str:

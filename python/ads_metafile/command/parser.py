@@ -64,7 +64,7 @@ def make_parser() -> ArgumentParser:
         made.set_defaults(run=run)
         return made
 
-    for adding in (add_reading, add_parts, add_relations, add_price, add_blocks, add_writing):
+    for adding in (add_reading, add_parts, add_relations, add_price, add_writing, add_blocks):
         adding(add)
     return parser
 

@@ -11,9 +11,9 @@ from .signals import signals_held
 TEMPORARY = ".ads-begin-"
 
 
-def create(path: str, data: bytes, done: str = "begun") -> None:
-    """Writes the file under a temporary name in the same folder, then gives it its name, which must be free. `done` is
-    the word for that in a message."""
+def create(path: str, data: bytes, done: str = "begun", rename: bool = False) -> None:
+    """Writes the file under a temporary name in the same folder, then links it to its name, which must be free. `done`
+    is the word for that in a message. With `rename` a file system without links does."""
     temporary = os.path.join(os.path.dirname(path), TEMPORARY + os.urandom(8).hex())
     with signals_held():
         try:
@@ -22,7 +22,7 @@ def create(path: str, data: bytes, done: str = "begun") -> None:
             with new_file(temporary) as descriptor:
                 write_at(descriptor, memoryview(data), 0)
                 os.fsync(descriptor)
-                give_name(temporary, path)
+                (give_name if rename else os.link)(temporary, path)
         except FileExistsError as error:
             raise DiskError(path, "exists already, and is never overwritten; give another name") from error
         except OSError as error:

@@ -15,9 +15,9 @@ pub enum Call {
     RelationsCheck,
     RelationsLatest,
     Price,
+    Listing,
     Pack,
     Unpack,
-    Listing,
 }
 
 /// Each call and the numbers that it can give.
@@ -33,19 +33,17 @@ const CALLS: [(&str, &[u8]); 14] = [
     ("rel. check", &[0, 11, 13, 18, 19, 20]),
     ("rel. latest", &[0, 11, 13, 18, 20]),
     ("price", &[0, 11, 18, 21]),
+    ("listing", &[0, 11, 18]),
     ("pack", &[0, 11, 18]),
     ("unpack", &[0, 11, 18, 27, 28, 29]),
-    ("listing", &[0, 11, 18]),
 ];
 
 /// One more than the highest number.
 const NUMBERS: usize = 30;
 
-/// No call gives these.
-const FREE: [usize; 3] = [22, 25, 26];
-
+/// No call gives 22, 25 and 26.
 fn numbers() -> impl Iterator<Item = usize> {
-    (0..NUMBERS).filter(|number| !FREE.contains(number))
+    (0..25).filter(|&number| number != 22).chain(27..NUMBERS)
 }
 
 #[derive(Default)]

@@ -27,9 +27,9 @@ const PARTS: [Part; 16] = [
     ("the latest relations", |run| latest::run(run, 1500)),
     ("prices", |run| prices::run(run, 1500)),
     ("ancestors", |run| ancestors::run(run, 400)),
-    ("blocks", |run| blocks::run(run, 1500)),
     ("listings", listings::run),
     ("limits", limits::run),
+    ("blocks", |run| blocks::run(run, 1500)),
 ];
 
 fn main() {
