@@ -19,12 +19,14 @@ fn text_length(answer: ListingAnswer) -> usize
     }
 }
 
-// Reads until the buffer is full or the input ends, and answers how many bytes there are.
+// Reads until the buffer is full or the input ends, and answers how many bytes there are. An error is the reader's own, and the
+// buffer is as long as before.
 pub fn read_full<R: Read>(reader: &mut R, buffer: &mut [u8]) -> io::Result<usize>
-    ensures { IfOk result (λ n. n ≤ length buffer.new) }
+    ensures within { IfOk result (λ n. n ≤ length buffer.new) }
+    ensures kept { length buffer.new ≡ length buffer.old }
 {
     let mut got = 0usize;
-    for _ in 0..u64::MAX {
+    while got < buffer.len() {
         let n = reader.read(&mut buffer[got..])?;
         if n == 0 {
             break;
