@@ -53,7 +53,7 @@ class Names(unittest.TestCase):
     def test_a_name_that_is_not_there_is_seen(self) -> None:
         self.assertTrue(function_missing("read::reed"))
         self.assertTrue(function_missing("read::local::first"))
-        self.assertFalse(function_missing("read::states::first"))
+        self.assertFalse(function_missing("walk::cursor::first"))
         self.assertTrue(path_missing("docs/FORMATS.md") and path_missing("doc/FORMAT.md") and path_missing("none.ads"))
         self.assertFalse(path_missing("docs/FORMAT.md") or path_missing("metafile/proofs/Joint.antt"))
 

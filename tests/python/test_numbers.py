@@ -116,8 +116,8 @@ class Others(unittest.TestCase):
                          {number: words for number, (_, words) in refusals().items()})
 
     def test_metafile(self) -> None:
-        found = re.findall(r"^pub const (\w+): u8 = (\d+);$", text("crates/metafile/src/refusals.rt"), re.MULTILINE)
-        self.assertEqual([(int(number), NAMES_OF_METAFILE.get(name, name)) for name, number in found],
+        found = re.findall(r"^    (\w+) = (\d+),$", text("crates/metafile/src/refusal.rt"), re.MULTILINE)
+        self.assertEqual([(int(number), NAMES_OF_METAFILE.get(snake(name), snake(name))) for name, number in found],
                          [(number, name) for number, (name, _) in refusals().items()])
 
 
@@ -165,7 +165,7 @@ class Sizes(unittest.TestCase):
         c = self.sizes("include/ads.h", r"^#define ADS_(\w+) \(?([\d <]+)\)? +/\*")
         self.assertEqual(c.pop("SERIAL_BYTES"), 38)
         self.assertEqual(c, self.sizes("rust/src/sizes.rs", r"^pub const (\w+): usize = ([\d_ <]+);"))
-        metafile = self.sizes("crates/metafile/src/lib.rt", r"^pub const (LIMIT): usize = (\d+);")
+        metafile = self.sizes("crates/metafile/src/limits.rt", r"^pub const (LIMIT): usize = (\d+);")
         self.assertEqual({c["MOST_BYTES"], metafile["LIMIT"], MOST_BYTES}, {2**30})
         self.assertEqual([most_rows(length) for length in (0, 855, 856)], [1, 1, 2])
         self.assertEqual((c["BLOCK_BYTES"], c["BLOCK_DATA"]), (_blocks.BLOCK_BYTES, _blocks.BLOCK_DATA))

@@ -19,15 +19,9 @@ ghost use Rattle.blocks.specs.Blocks.{pack, unpack};
 ghost use Rattle.ads.specs.Answers.{written_answer, written_alone, counted_answer, counted_alone, counted_row_answer, counted_row_alone, parent_answer, parent_alone, ends_answer, ends_alone, ancestry_answer, ancestry_alone, priced_answer, priced_alone};
 
 use crate::answers::{Ancestry, Counted, CountedRow, Ends, Parent, Priced, Written};
-use blocks::{PackAnswer, UnpackAnswer};
 use contents::Part;
-use listing_text::ListingAnswer;
 use metafile::clean::clean_at;
-use metafile::{
-    AncestorsAnswer, AppendAnswer, BeginAnswer, Description, GatherAnswer, ParentAnswer,
-    ReadAnswer, RelationsCheckAnswer, RelationsLatestAnswer, RelationsWriteAnswer, Row,
-};
-use price::PriceAnswer;
+use metafile::{Description, ReadAnswer, Row};
 
 #[unsafe(no_mangle)]
 pub extern "C" fn ads_begin(
@@ -43,13 +37,10 @@ pub extern "C" fn ads_begin(
     ensures answer { outcome (written_answer result) buffer.new ≡ begin (begun strategy.now mark.now serial.now recorded.now recorder.now written.now writer.now) buffer.old }
     ensures alone { result ≡ choose result.number result written_alone }
 {
-    let answer = begin::begin(
+    let length = begin::begin(
         *strategy, mark, *serial, *recorded, recorder, *written, writer, buffer,
     );
-    match answer {
-        BeginAnswer::Written(length) => Written { length, number: 0 },
-        BeginAnswer::Refused(number) => Written { length: 0, number },
-    }
+    length.into()
 }
 
 // The lent table is a slice of rows, passed on as it is.
@@ -68,34 +59,12 @@ pub extern "C" fn ads_is_clean(reading: ReadAnswer, length: usize) -> bool
     clean_at(length, reading.number, reading.stop)
 }
 
-// "or missing": no row beside a number, 0 included.
-fn no_parent(number: u8) -> Parent
-    ensures { result ≡ parent_alone number }
-{
-    Parent {
-        row: 0,
-        found: false,
-        agree: false,
-        number,
-    }
-}
-
 #[unsafe(no_mangle)]
 pub extern "C" fn ads_parent(file: &[u8], row: usize, dependency: usize) -> Parent
     ensures answer { parent_answer result ≡ parent file.now row dependency }
     ensures alone { result ≡ choose result.number (cond result.found result (parent_alone 0)) parent_alone }
 {
-    let answer = parent::parent(file, row, dependency);
-    match answer {
-        ParentAnswer::Found(row, agree) => Parent {
-            row,
-            found: true,
-            agree,
-            number: 0,
-        },
-        ParentAnswer::Missing => no_parent(0),
-        ParentAnswer::Refused(number) => no_parent(number),
-    }
+    parent::parent(file, row, dependency).into()
 }
 
 #[unsafe(no_mangle)]
@@ -111,7 +80,7 @@ pub extern "C" fn ads_append(
     ensures answer { outcome (ends_answer result) buffer.new ≡ append buffer.old length (given_of description parents.now specific.now contents.now «open») }
     ensures alone { result ≡ choose result.number result ends_alone }
 {
-    let answer = append::append(
+    let ends = append::append(
         buffer,
         length,
         description,
@@ -120,20 +89,7 @@ pub extern "C" fn ads_append(
         contents,
         open,
     );
-    match answer {
-        AppendAnswer::Ends(first, second, third) => Ends {
-            first,
-            second,
-            third,
-            number: 0,
-        },
-        AppendAnswer::Refused(number) => Ends {
-            first: 0,
-            second: 0,
-            third: 0,
-            number,
-        },
-    }
+    ends.into()
 }
 
 // An exported function can't return a part of the file, so it answers the part's place and bytes.
@@ -150,11 +106,7 @@ pub extern "C" fn ads_gather(file: &[u8], row: usize, id: &[u8], buffer: &mut [u
     ensures answer { outcome (written_answer result) buffer.new ≡ gather file.now row id.now buffer.old }
     ensures alone { result ≡ choose result.number result written_alone }
 {
-    let answer = gather::gather(file, row, id, buffer);
-    match answer {
-        GatherAnswer::Joined(length) => Written { length, number: 0 },
-        GatherAnswer::Refused(number) => Written { length: 0, number },
-    }
+    gather::gather(file, row, id, buffer).into()
 }
 
 #[unsafe(no_mangle)]
@@ -162,19 +114,7 @@ pub extern "C" fn ads_ancestors(file: &[u8], row: usize, rows: &mut [usize]) -> 
     ensures answer { outcome (ancestry_answer result) rows.new ≡ ancestors file.now row rows.old }
     ensures alone { result ≡ choose result.number result ancestry_alone }
 {
-    let answer = ancestors::ancestors(file, row, rows);
-    match answer {
-        AncestorsAnswer::Reached(count, missing) => Ancestry {
-            count,
-            missing,
-            number: 0,
-        },
-        AncestorsAnswer::Refused(number) => Ancestry {
-            count: 0,
-            missing: 0,
-            number,
-        },
-    }
+    ancestors::ancestors(file, row, rows).into()
 }
 
 #[unsafe(no_mangle)]
@@ -182,11 +122,7 @@ pub extern "C" fn ads_relations_write(file: &[u8], buffer: &mut [u8]) -> Written
     ensures answer { outcome (written_answer result) buffer.new ≡ relations_write file.now buffer.old }
     ensures alone { result ≡ choose result.number result written_alone }
 {
-    let answer = relations_write::write(file, buffer);
-    match answer {
-        RelationsWriteAnswer::Written(length) => Written { length, number: 0 },
-        RelationsWriteAnswer::Refused(number) => Written { length: 0, number },
-    }
+    relations_write::write(file, buffer).into()
 }
 
 #[unsafe(no_mangle)]
@@ -194,11 +130,7 @@ pub extern "C" fn ads_relations_check(file: &[u8], row: usize, verdicts: &mut [u
     ensures answer { outcome (counted_answer result) verdicts.new ≡ relations_check file.now row verdicts.old }
     ensures alone { result ≡ choose result.number result counted_alone }
 {
-    let answer = relations_check::check(file, row, verdicts);
-    match answer {
-        RelationsCheckAnswer::Checked(count) => Counted { count, number: 0 },
-        RelationsCheckAnswer::Refused(number) => Counted { count: 0, number },
-    }
+    relations_check::check(file, row, verdicts).into()
 }
 
 #[unsafe(no_mangle)]
@@ -206,19 +138,7 @@ pub extern "C" fn ads_relations_check_latest(file: &[u8], verdicts: &mut [u32]) 
     ensures answer { outcome (counted_row_answer result) verdicts.new ≡ relations_check_latest file.now verdicts.old }
     ensures alone { result ≡ choose result.number result counted_row_alone }
 {
-    let answer = relations_check::check_latest(file, verdicts);
-    match answer {
-        RelationsLatestAnswer::Checked(count, row) => CountedRow {
-            count,
-            row,
-            number: 0,
-        },
-        RelationsLatestAnswer::Refused(number) => CountedRow {
-            count: 0,
-            row: 0,
-            number,
-        },
-    }
+    relations_check::check_latest(file, verdicts).into()
 }
 
 #[unsafe(no_mangle)]
@@ -226,11 +146,7 @@ pub extern "C" fn ads_listing(input: &[u8], buffer: &mut [u8]) -> Written
     ensures answer { outcome (written_answer result) buffer.new ≡ listing_outcome input.now buffer.old }
     ensures alone { result ≡ choose result.number result written_alone }
 {
-    let answer = listing_text::listing(input, buffer);
-    match answer {
-        ListingAnswer::Written(length) => Written { length, number: 0 },
-        ListingAnswer::Refused(number) => Written { length: 0, number },
-    }
+    listing_text::listing(input, buffer).into()
 }
 
 #[unsafe(no_mangle)]
@@ -238,23 +154,7 @@ pub extern "C" fn ads_price(file: &[u8], fee: u64, rate: u64, buffer: &mut [u8])
     ensures answer { outcome (priced_answer result) buffer.new ≡ price file.now fee rate buffer.old }
     ensures alone { result ≡ choose result.number result priced_alone }
 {
-    let answer = price::price(file, fee, rate, buffer);
-    match answer {
-        PriceAnswer::Priced(parts) => Priced {
-            length: parts.length,
-            header: parts.header,
-            chunks: parts.chunks,
-            unread: parts.unread,
-            number: 0,
-        },
-        PriceAnswer::Refused(number) => Priced {
-            length: 0,
-            header: 0,
-            chunks: 0,
-            unread: 0,
-            number,
-        },
-    }
+    price::price(file, fee, rate, buffer).into()
 }
 
 #[unsafe(no_mangle)]
@@ -262,11 +162,7 @@ pub extern "C" fn ads_pack(file: &[u8], buffer: &mut [u8]) -> Written
     ensures answer { outcome (written_answer result) buffer.new ≡ pack file.now buffer.old }
     ensures alone { result ≡ choose result.number result written_alone }
 {
-    let answer = blocks::pack(file, buffer);
-    match answer {
-        PackAnswer::Packed(length) => Written { length, number: 0 },
-        PackAnswer::Refused(number) => Written { length: 0, number },
-    }
+    blocks::pack(file, buffer).into()
 }
 
 #[unsafe(no_mangle)]
@@ -274,9 +170,5 @@ pub extern "C" fn ads_unpack(blocks: &[u8], buffer: &mut [u8]) -> Written
     ensures answer { outcome (written_answer result) buffer.new ≡ unpack blocks.now buffer.old }
     ensures alone { result ≡ choose result.number result written_alone }
 {
-    let answer = blocks::unpack(blocks, buffer);
-    match answer {
-        UnpackAnswer::Unpacked(length) => Written { length, number: 0 },
-        UnpackAnswer::Refused(number) => Written { length: 0, number },
-    }
+    blocks::unpack(blocks, buffer).into()
 }

@@ -3,40 +3,37 @@
 --     small-counts                                             counts of missing parents whose sum is a number of the machine
 --     answered                                                 the rows listed, and how many dependencies name no row
 -- Assumes nothing.
-use Prim.Native.Nat.{ℕ, ◌≤◌, ◌<◌}
-use mathlib.Core.Bool.{Bool, true, false, cond, not, ◌&&◌, ◌||◌}
-use mathlib.Core.Path.{◌≡◌, refl, sym, ap, ◌∙◌}
-use mathlib.Core.List.{List, [], ◌∷◌}
-use native.Mathlib.Omega.{arith}
-use lib.Dec.{eqb}
-use lib.ListN.{length}
-use borrow.Author.Tests.{lt-ltb, le-ltb, le-leb, lt-leb, not-true, not-false}
-use Rattle.metafile.specs.declared.AncestorsAnswer.TheVariants.{Reached, Refused}
+use Rattle.std.proofs.Common.{ℕ, ◌≤◌, ◌<◌, ◌≡◌, Bool, true, false, cond, not, ◌&&◌, ◌||◌, List, [], ◌∷◌, length, take, get_or-take, eqb, refl, sym, ap, ◌∙◌, arith, lt-ltb, le-ltb, le-leb}
+use borrow.Author.Tests.{lt-leb}
+use Rattle.std.specs.declared.result.Result.TheVariants.{Ok, Err}
+use Rattle.metafile.specs.declared.refusal.Refusal.TheVariants.{OverLimit, NoRow, RowsOver64, Circle, NoRoom}
 use Rattle.metafile.specs.Reading.{rows_of}
-use Rattle.metafile.specs.Answers.{ancestors_answer, outcome, placed}
+use Rattle.metafile.specs.Answers.{ancestors_answer, outcome, over_limit, placed}
 use Rattle.metafile.specs.Below.{join_below, sum_below}
 use Rattle.metafile.specs.Closure.{by_way, within, circular_from}
 use Rattle.metafile.specs.Ancestors.{depends_on, reaches, is_ancestor, ancestor_rows, rests_on, missing_of, missing, circular, ancestors_tests, ancestors}
 use Rattle.laws.proofs.Below.{sum_same, join-same}
 use Rattle.laws.proofs.Closure.{within_same, circular-same}
-use Rattle.laws.proofs.Accepted.{refusal-first, refusal-next, tests-end, limit-over, limit-under}
+use Rattle.laws.proofs.Accepted.{refusal-first, refusal-next, tests-end}
 use Rattle.laws.proofs.Outcomes.{outcome-refused, outcome-done}
 use Rattle.ancestor_laws.proofs.Listed.{missing_of-few}
+use Rattle.graph.specs.declared.Mark.{Mark}
+use Rattle.graph.specs.declared.Mark.TheVariants.{Unvisited}
 use Rattle.graph.specs.Graph.{goes, Reached as Marked}
-use Rattle.ancestors.specs.Noted.{Noted}
+use Rattle.ancestors.specs.declared.rows.NotedRow.{NotedRow}
+use Rattle.ancestors.specs.Noted.{AllNoted}
 use Rattle.ancestors.specs.Steps.{Tabled, Counted}
 use Rattle.ancestors.specs.Lists.{is_marked, is_listed, listed_rows, marked_sum, Small}
 
 -- ---- counts of missing parents
 
-pub small-counts : {file : List ℕ} {n : ℕ} {places serials counts after : List ℕ} → Noted file n places serials counts → n ≤ 64
-    → length file ≤ 1073741824 → Counted file n after → Small n after
-small-counts {file} {counts = counts} w few small c =
+pub small-counts : {file : List ℕ} {rows after : List NotedRow} → AllNoted file rows → length after ≡ length rows → length file ≤ 1073741824
+    → Counted file after → Small after
+small-counts {file} w long small c =
     record {
-      few = few;
-      long = omega (arith, c.long);
+      few = omega (arith, w.few);
       small = λ i h.
-          let here = w.chunks i h (omega arith) in
+          let here = w.each i (omega arith) in
           omega (arith, c.each i h, missing_of-few file i, here.count-is, here.inside);
     }
 
@@ -47,51 +44,50 @@ other-only true b = refl
 other-only false b = refl
 
 module _ (file : List ℕ) (row : ℕ) (list : List ℕ) where
-  pub refused-11 : 1073741824 < length file → outcome (ancestors_answer (Refused 11)) list ≡ ancestors file row list
+  pub refused-11 : over_limit (length file ∷ []) ≡ true → outcome (ancestors_answer (Err OverLimit)) list ≡ ancestors file row list
   unfolding ancestors ancestors_tests ancestors_answer
-  refused-11 h = outcome-refused _ list _ 11 (sym (refusal-first 11 _ _ (limit-over (length file) [] h))) (λ z. omega arith)
+  refused-11 h = outcome-refused _ list _ 11 (sym (refusal-first 11 _ _ h)) (λ z. omega arith)
 
-  module _ (small : length file ≤ 1073741824) (n : ℕ) (rows : n ≡ length (rows_of file)) where
-    pub refused-13 : n ≤ row → outcome (ancestors_answer (Refused 13)) list ≡ ancestors file row list
+  module _ (small : over_limit (length file ∷ []) ≡ false) (n : ℕ) (rows : n ≡ length (rows_of file)) where
+    pub refused-13 : n ≤ row → outcome (ancestors_answer (Err NoRow)) list ≡ ancestors file row list
     unfolding ancestors ancestors_tests ancestors_answer
     refused-13 h =
         outcome-refused _ list _ 13
-        (sym (refusal-next 11 _ _ (limit-under _ small) ∙ refusal-first 13 _ _ (le-leb (length (rows_of file)) row (omega arith))))
+        (sym (refusal-next 11 _ _ small ∙ refusal-first 13 _ _ (le-leb (length (rows_of file)) row (omega arith))))
         (λ z. omega arith)
 
     module _ (there : row < n) where
-      pub refused-24 : 64 < n → outcome (ancestors_answer (Refused 24)) list ≡ ancestors file row list
+      pub refused-24 : 64 < n → outcome (ancestors_answer (Err RowsOver64)) list ≡ ancestors file row list
       unfolding ancestors ancestors_tests ancestors_answer
       refused-24 h =
           outcome-refused _ list _ 24
-          (sym (refusal-next 11 _ _ (limit-under _ small) ∙ refusal-next 13 _ _ (lt-leb (length (rows_of file)) row (omega arith)) ∙ refusal-first 24 _ _ (lt-ltb 64 (length (rows_of file)) (omega arith))))
+          (sym (refusal-next 11 _ _ small ∙ refusal-next 13 _ _ (lt-leb (length (rows_of file)) row (omega arith)) ∙ refusal-first 24 _ _ (lt-ltb 64 (length (rows_of file)) (omega arith))))
           (λ z. omega arith)
 
-      module _ (few : n ≤ 64) (t : List ℕ) (w : Tabled file n n t)
-          (fine : Bool) (marks : List ℕ) (r : Marked t n row fine marks) where
+      module _ (few : n ≤ 64) (t : List (List Bool)) (w : Tabled file n n t) where
         circular-is : circular_from (goes t) n row ≡ circular file row
         unfolding circular
         circular-is =
             circular-same (goes t) (depends_on file) n w.steps row there ∙ ap (λ (k : ℕ). circular_from (depends_on file) k row) rows
 
-        pub refused-23 : fine ≡ false → outcome (ancestors_answer (Refused 23)) list ≡ ancestors file row list
+        pub refused-23 : circular_from (goes t) n row ≡ true → outcome (ancestors_answer (Err Circle)) list ≡ ancestors file row list
         unfolding ancestors ancestors_tests ancestors_answer
-        refused-23 f =
-            let circle : circular file row ≡ true = sym circular-is ∙ not-false _ (sym r.circle ∙ f) in
+        refused-23 e =
             outcome-refused _ list _ 23
-            (sym (refusal-next 11 _ _ (limit-under _ small)
+            (sym (refusal-next 11 _ _ small
             ∙ refusal-next 13 _ _ (lt-leb (length (rows_of file)) row (omega arith))
             ∙ refusal-next 24 _ _ (le-ltb 64 (length (rows_of file)) (omega arith))
-            ∙ refusal-first 23 _ _ circle))
+            ∙ refusal-first 23 _ _ (sym circular-is ∙ e)))
             (λ z. omega arith)
 
-        module _ (f : fine ≡ true) where
+        module _ (all : List Mark) (r : Marked t n row all) (marks : List Mark) (first : marks ≡ take n all) (long : length marks ≡ n) where
           marked-is : (i : ℕ) → i < n → is_marked marks i ≡ rests_on file row i
           unfolding is_marked rests_on
           marked-is i h =
-              r.marked f i h
+              rw (first, get_or-take n all i Unvisited h)
+              (r.marked i h
               ∙ within_same (goes t) (depends_on file) n w.steps row i there h
-              ∙ ap (λ (k : ℕ). within (depends_on file) k row i) rows
+              ∙ ap (λ (k : ℕ). within (depends_on file) k row i) rows)
 
           listed-one : (i : ℕ) → i < n → is_listed marks row i ≡ is_ancestor file row i
           unfolding is_listed is_ancestor rests_on within reaches
@@ -99,45 +95,47 @@ module _ (file : List ℕ) (row : ℕ) (list : List ℕ) where
               ap (λ (b : Bool). not (eqb i row) && b) (marked-is i h)
               ∙ other-only (eqb i row) (by_way (depends_on file) (length (rows_of file)) row i)
 
-          listed-is : listed_rows marks row n ≡ ancestor_rows file row
+          listed-is : listed_rows marks row (length marks) ≡ ancestor_rows file row
           unfolding listed_rows ancestor_rows
           listed-is =
-              join-same n _ (λ (i : ℕ). cond (is_ancestor file row i) (i ∷ []) []) (λ i h. ap (λ (b : Bool). cond b (i ∷ []) []) (listed-one i h))
-              ∙ ap (λ (k : ℕ). join_below k (λ (i : ℕ). cond (is_ancestor file row i) (i ∷ []) [])) rows
+              rw long
+              (join-same n _ (λ (i : ℕ). cond (is_ancestor file row i) (i ∷ []) []) (λ i h. ap (λ (b : Bool). cond b (i ∷ []) []) (listed-one i h))
+              ∙ ap (λ (k : ℕ). join_below k (λ (i : ℕ). cond (is_ancestor file row i) (i ∷ []) [])) rows)
 
           passed : circular file row ≡ false
-          passed = sym circular-is ∙ not-true _ (sym r.circle ∙ f)
+          passed = sym circular-is ∙ r.acyclic
 
-          module _ (count : ℕ) (is : count ≡ length (listed_rows marks row n)) where
-            pub refused-18 : length list < count → outcome (ancestors_answer (Refused 18)) list ≡ ancestors file row list
+          module _ (count : ℕ) (is : count ≡ length (listed_rows marks row (length marks))) where
+            pub refused-18 : length list < count → outcome (ancestors_answer (Err NoRoom)) list ≡ ancestors file row list
             unfolding ancestors ancestors_tests ancestors_answer
             refused-18 h =
                 let short : length list < length (ancestor_rows file row) = omega (arith, ap length listed-is) in
                 outcome-refused _ list _ 18
-                (sym (refusal-next 11 _ _ (limit-under _ small)
+                (sym (refusal-next 11 _ _ small
                 ∙ refusal-next 13 _ _ (lt-leb (length (rows_of file)) row (omega arith))
                 ∙ refusal-next 24 _ _ (le-ltb 64 (length (rows_of file)) (omega arith))
                 ∙ refusal-next 23 _ _ passed
                 ∙ refusal-first 18 _ _ (lt-ltb _ _ short)))
                 (λ z. omega arith)
 
-            module _ (counts : List ℕ) (c : Counted file n counts) where
-              missing-is : marked_sum marks counts n ≡ missing file row
+            module _ (counts : List NotedRow) (c : Counted file counts) (many : length counts ≡ n) where
+              missing-is : marked_sum marks counts (length marks) ≡ missing file row
               unfolding marked_sum missing
               missing-is =
-                  sum_same n _ (λ (i : ℕ). cond (rests_on file row i) (missing_of file i) 0) (λ i h. rw (marked-is i h, c.each i h))
-                  ∙ ap (λ (k : ℕ). sum_below k (λ (i : ℕ). cond (rests_on file row i) (missing_of file i) 0)) rows
+                  rw long
+                  (sum_same n _ (λ (i : ℕ). cond (rests_on file row i) (missing_of file i) 0) (λ i h. rw (marked-is i h, c.each i (omega arith)) refl)
+                  ∙ ap (λ (k : ℕ). sum_below k (λ (i : ℕ). cond (rests_on file row i) (missing_of file i) 0)) rows)
 
-              pub answered : count ≤ length list → (after : List ℕ) → after ≡ placed 0 (listed_rows marks row n) list
-                  → (sum : ℕ) → sum ≡ marked_sum marks counts n
-                  → outcome (ancestors_answer (Reached count sum)) after ≡ ancestors file row list
+              pub answered : count ≤ length list → (after : List ℕ) → after ≡ placed 0 (listed_rows marks row (length marks)) list
+                  → (sum : ℕ) → sum ≡ marked_sum marks counts (length marks)
+                  → outcome (ancestors_answer (Ok (record { count = count; missing = sum }))) after ≡ ancestors file row list
               unfolding ancestors ancestors_tests ancestors_answer
               answered h after put sum total =
                   let long : count ≡ length (ancestor_rows file row) = is ∙ ap length listed-is in
                   let room : length (ancestor_rows file row) ≤ length list = omega arith in
                   rw (long, put, total, missing-is, listed-is)
                   (outcome-done _ list _
-                  (refusal-next 11 _ _ (limit-under _ small)
+                  (refusal-next 11 _ _ small
                   ∙ refusal-next 13 _ _ (lt-leb (length (rows_of file)) row (omega arith))
                   ∙ refusal-next 24 _ _ (le-ltb 64 (length (rows_of file)) (omega arith))
                   ∙ refusal-next 23 _ _ passed

@@ -1,25 +1,54 @@
--- The rows that are marked (specs/Lists), row by row: the listed ones counted and put into a list, and numbers added up.
---     Counting counting-..   how many of the first i rows are listed
---     put_in                 one row more in the list
---     Adding adding-..       the numbers of the first i rows that are marked
+-- The rows that are marked (specs/Lists), row by row: the listed ones counted and put into a list, and their missing parents
+-- added up.
+--     marked-is        a mark that is compared with Done
+--     listed-count     how many are listed
+--     listed-room put_in put-out   one row more in the list
+--     marked-next marked-most      one row more in the sum
 -- Assumes nothing.
-use Prim.Native.Nat.{ℕ, ◌+◌, ◌*◌, ◌≤◌, ◌<◌}
-use mathlib.Core.Bool.{true, false, cond}
-use mathlib.Core.Path.{◌≡◌, refl, sym, ap, ◌∙◌}
-use mathlib.Core.List.{List, [], ◌∷◌, ◌++◌, append-nil}
-use native.Mathlib.Omega.{arith}
-use lib.ListN.{length, get_or, take, set, length-append}
-use lib.Seq.{take-append_seam, take-append-add, get_or-append_seam}
-use Rattle.metafile.specs.Below.{join_below, sum_below}
+use Rattle.std.proofs.Common.{ℕ, zero, suc, ◌+◌, ◌≤◌, ◌<◌, ◌≡◌, Bool, true, false, cond, List, [], ◌∷◌, ◌++◌, length, get_or, take, set, map, filter, refl, sym, ap, ◌∙◌, arith, add-one, length-append, append-nil}
+use Rattle.std.proofs.Math.Seq.{take-append_seam, take-append-add, get_or-append_seam}
+use Rattle.std.proofs.lemmas.List.{map-id}
+use Rattle.std.proofs.lemmas.List.FromFn.{filter_of_map_range_with_len_more}
+use Rattle.std.proofs.lemmas.List.Sums.{length-filter}
+use Rattle.std.specs.List.{range_with_len, count_by}
+use Rattle.metafile.specs.Below.{join_below}
 use Rattle.metafile.specs.Answers.{placed}
-use Rattle.laws.proofs.Below.{join_more, join-long, sum_more, sum-grows, sum-part}
-use Rattle.laws.proofs.Loops.{placed-length, put-more}
+use Rattle.laws.proofs.Below.{join_more, join-long, sum_more, sum-part, sum-most}
+use Rattle.laws.proofs.Loops.{put-more}
+use denote.Enum.Bare.{sameb}
+use Rattle.graph.specs.contracts.Mark.{the_type}
+use Rattle.graph.specs.declared.Mark.{Mark}
+use Rattle.graph.specs.declared.Mark.TheVariants.{Unvisited, OnPath, Done}
+use Rattle.graph.specs.Graph.{mark, is_done}
+use Rattle.ancestors.specs.declared.rows.NotedRow.{NotedRow}
+use Rattle.ancestors.specs.Noted.{noted_no}
 use Rattle.ancestors.specs.Lists.{is_marked, is_listed, listed_rows, marked_sum, Small}
+
+same_done : (x : Mark) → sameb the_type x Done ≡ is_done x
+unfolding is_done
+same_done Unvisited = refl
+same_done OnPath = refl
+same_done Done = refl
+
+-- a mark that is compared with Done
+pub marked-is : (b : Bool) (marks : List Mark) (i : ℕ) → b ≡ sameb the_type (mark marks i) Done → b ≡ is_marked marks i
+unfolding is_marked
+marked-is b marks i e = e ∙ same_done (mark marks i)
 
 -- ---- the rows listed
 
-module _ (marks : List ℕ) (row : ℕ) where
-  listed-none : listed_rows marks row 0 ≡ []
+module _ (marks : List Mark) (row : ℕ) where
+  listed-filter : (n : ℕ) → listed_rows marks row n ≡ filter (is_listed marks row) (map (λ i. i) (range_with_len 0 n))
+  unfolding listed_rows join_below
+  listed-filter zero = refl
+  listed-filter (suc n) =
+      ap (λ (v : List ℕ). v ++ cond (is_listed marks row n) (n ∷ []) []) (listed-filter n)
+      ∙ sym (rw add-one at (filter_of_map_range_with_len_more (is_listed marks row) (λ i. i) 0 n n (omega arith)))
+
+  pub listed-count : (n : ℕ) → count_by (is_listed marks row) (range_with_len 0 n) ≡ length (listed_rows marks row n)
+  listed-count n = sym (ap length (listed-filter n) ∙ rw (map-id (range_with_len 0 n)) (length-filter (is_listed marks row) (range_with_len 0 n)))
+
+  pub listed-none : listed_rows marks row 0 ≡ []
   unfolding listed_rows join_below
   listed-none = refl
 
@@ -27,7 +56,7 @@ module _ (marks : List ℕ) (row : ℕ) where
   unfolding listed_rows
   listed_in i e = join_more i _ ∙ rw e
 
-  listed-out : (i : ℕ) → is_listed marks row i ≡ false → listed_rows marks row (i + 1) ≡ listed_rows marks row i
+  pub listed-out : (i : ℕ) → is_listed marks row i ≡ false → listed_rows marks row (i + 1) ≡ listed_rows marks row i
   unfolding listed_rows
   listed-out i e = join_more i _ ∙ rw (e, append-nil)
 
@@ -39,44 +68,8 @@ module _ (marks : List ℕ) (row : ℕ) where
       let one : length (f i) ≡ 1 = rw e in
       omega (arith, join-long i f, join-long n f, sum-part (λ (k : ℕ). length (f k)) i n h)
 
-  listed-grows : (i n : ℕ) → i ≤ n → length (listed_rows marks row i) ≤ length (listed_rows marks row n)
-  unfolding listed_rows
-  listed-grows i n h =
-      let f : ℕ → List ℕ = λ (k : ℕ). cond (is_listed marks row k) (k ∷ []) [] in
-      omega (arith, join-long i f, join-long n f, sum-grows (λ (k : ℕ). length (f k)) i n h)
-
-  -- how many of the first i rows are listed
-  pub record Counting (n count i : ℕ) : Type 0 where
-    pub few : i ≤ n
-    pub most : count ≤ i
-    pub is : count ≡ length (listed_rows marks row i)
-
-  pub counting-none : (n : ℕ) → Counting n 0 0
-  counting-none n = record { few = omega arith; most = omega arith; is = sym (ap length listed-none) }
-
-  module _ {n count i : ℕ} (w : Counting n count i) (h : i < n) where
-    pub counting-in : is_listed marks row i ≡ true → Counting n (count + 1) (i + 1)
-    counting-in e =
-        record {
-          few = omega arith;
-          most = omega (arith, w.most);
-          is = omega (arith, w.is, ap length (listed_in i e), length-append (listed_rows marks row i) (i ∷ []));
-        }
-
-    pub counting-out : is_listed marks row i ≡ false → Counting n count (i + 1)
-    counting-out e = record { few = omega arith; most = omega (arith, w.most); is = w.is ∙ sym (ap length (listed-out i e)) }
-
-  pub counted : {n count i : ℕ} → Counting n count i → n ≤ i → count ≡ length (listed_rows marks row n)
-  counted {n} {count} {i} w h = let all : i ≡ n = omega (arith, w.few) in w.is ∙ ap (λ (k : ℕ). length (listed_rows marks row k)) all
-
-  -- ---- put into a list
-
-  pub put-none : (list : List ℕ) → list ≡ placed 0 (listed_rows marks row 0) list
-  unfolding placed
-  put-none list = rw listed-none
-
-  pub put-out : (list : List ℕ) (i : ℕ) → is_listed marks row i ≡ false → placed 0 (listed_rows marks row i) list ≡ placed 0 (listed_rows marks row (i + 1)) list
-  put-out list i e = ap (λ (v : List ℕ). placed 0 v list) (sym (listed-out i e))
+  pub listed-more : (i : ℕ) → is_listed marks row i ≡ true → length (listed_rows marks row (i + 1)) ≡ length (listed_rows marks row i) + 1
+  listed-more i e = ap length (listed_in i e) ∙ length-append (listed_rows marks row i) (i ∷ [])
 
   pub put_in : (list : List ℕ) (i n q : ℕ) → i < n → is_listed marks row i ≡ true → length (listed_rows marks row n) ≤ length list
       → q ≡ length (listed_rows marks row i) → set (placed 0 (listed_rows marks row i) list) q i ≡ placed 0 (listed_rows marks row (i + 1)) list
@@ -94,38 +87,26 @@ module _ (marks : List ℕ) (row : ℕ) where
       let zero : 0 + length v ≡ length v = omega arith in
       rw (at, listed_in i e) (rw (first, own, all, zero) at put)
 
-  -- the list as long as before
-  pub put-long : (list now : List ℕ) (i n : ℕ) → i ≤ n → length (listed_rows marks row n) ≤ length list → now ≡ placed 0 (listed_rows marks row i) list
-      → length now ≡ length list
-  put-long list now i n h room e = rw e (placed-length 0 (listed_rows marks row i) list (omega (arith, listed-grows i n h)))
-
 -- ---- numbers added up
 
-module _ (marks counts : List ℕ) where
-  marked-in : (i : ℕ) → is_marked marks i ≡ true → marked_sum marks counts (i + 1) ≡ marked_sum marks counts i + get_or counts i 0
+module _ (marks : List Mark) (rows : List NotedRow) where
+  marked-more : (i : ℕ) → marked_sum marks rows (i + 1) ≡ marked_sum marks rows i + cond (is_marked marks i) (noted_no rows i).missing 0
   unfolding marked_sum
-  marked-in i e = sum_more i _ ∙ rw e
+  marked-more i = sum_more i _
 
-  marked-out : (i : ℕ) → is_marked marks i ≡ false → marked_sum marks counts (i + 1) ≡ marked_sum marks counts i
+  -- the mark of row i, compared with Done, and the row as it is noted
+  pub marked-next : (i : ℕ) (b : Bool) (x : Mark) (r : NotedRow) → b ≡ sameb the_type x Done → x ≡ mark marks i → r ≡ noted_no rows i
+      → marked_sum marks rows (i + 1) ≡ marked_sum marks rows i + cond b r.missing 0
+  marked-next i b x r e m n = marked-more i ∙ rw (← n, ← marked-is b marks i (rw m at e)) refl
+
+  -- of at most 64 rows
+  pub marked-most : Small rows → (n : ℕ) → n ≤ length rows → marked_sum marks rows n ≤ 68719476736
   unfolding marked_sum
-  marked-out i e = sum_more i _ ∙ rw e (omega arith)
-
-  pub record Adding (n sum i : ℕ) : Type 0 where
-    pub few : i ≤ n
-    pub is : sum ≡ marked_sum marks counts i
-    pub most : sum ≤ 1073741824 * i
-
-  pub adding-none : (n : ℕ) → Adding n 0 0
-  unfolding marked_sum sum_below
-  adding-none n = record { few = omega arith; is = refl; most = omega arith }
-
-  module _ {n sum i : ℕ} (w : Adding n sum i) (h : i < n) where
-    pub adding-in : Small n counts → is_marked marks i ≡ true → Adding n (sum + get_or counts i 0) (i + 1)
-    adding-in s e =
-        record { few = omega arith; is = omega (arith, w.is, marked-in i e); most = omega (arith, w.most, s.small i h) }
-
-    pub adding-out : is_marked marks i ≡ false → Adding n sum (i + 1)
-    adding-out e = record { few = omega arith; is = w.is ∙ sym (marked-out i e); most = omega (arith, w.most) }
-
-  pub added : {n sum i : ℕ} → Adding n sum i → n ≤ i → sum ≡ marked_sum marks counts n
-  added {n} {sum} {i} w h = let all : i ≡ n = omega (arith, w.few) in w.is ∙ ap (marked_sum marks counts) all
+  marked-most s n h =
+      let f : ℕ → ℕ = λ (i : ℕ). cond (is_marked marks i) (noted_no rows i).missing 0 in
+      let each : (i : ℕ) → i < n → f i ≤ 1073741824 = λ i k. part (is_marked marks i) (s.small i (omega arith)) in
+      omega (arith, sum-most f 1073741824 n each, s.few)
+    where
+      part : (b : Bool) {x : ℕ} → x ≤ 1073741824 → cond b x 0 ≤ 1073741824
+      part true h = h
+      part false h = omega arith

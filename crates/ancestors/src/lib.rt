@@ -12,40 +12,42 @@ ghost use Rattle.std.specs.Prelude.{◌≡◌};
 ghost use Rattle.metafile.specs.Answers.{outcome, ancestors_answer};
 ghost use Rattle.metafile.specs.Ancestors.{ancestors};
 
-use metafile::{AncestorsAnswer, LIMIT, refusals};
+use graph::ROWS;
+use metafile::{Reached, Refusal, over_limit};
 
 mod lists;
 mod rows;
 mod steps;
 
 // Tests 11, 13, 24, 23, 18.
-pub fn ancestors(file: &[u8], row: usize, list: &mut [usize]) -> AncestorsAnswer
+pub fn ancestors(file: &[u8], row: usize, list: &mut [usize]) -> Result<Reached, Refusal>
     ensures { outcome (ancestors_answer result) list.new ≡ ancestors file.now row list.old }
 {
-    if LIMIT < file.len() {
-        return AncestorsAnswer::Refused(refusals::OVER_LIMIT);
+    if over_limit(&[file.len()]) {
+        return Err(Refusal::OverLimit);
     }
-    let mut places = [0usize; graph::ROWS];
-    let mut serials = [0usize; graph::ROWS];
-    let mut counts = [0usize; graph::ROWS];
-    let n = rows::note_rows(file, &mut places, &mut serials, &mut counts);
+    let mut noted = [rows::UNNOTED; ROWS];
+    let n = rows::note_rows(file, &mut noted);
     if n <= row {
-        return AncestorsAnswer::Refused(refusals::NO_ROW);
+        return Err(Refusal::NoRow);
     }
-    if graph::ROWS < n {
-        return AncestorsAnswer::Refused(refusals::ROWS_OVER_64);
+    if ROWS < n {
+        return Err(Refusal::RowsOver64);
     }
-    let mut table = [0u8; steps::TABLE];
-    steps::put_steps(file, &places, &serials, &mut counts, n, &mut table);
-    let reached = graph::reach(&table, n, row);
-    if !reached.fine {
-        return AncestorsAnswer::Refused(refusals::CIRCLE);
-    }
-    let marks = reached.marks;
-    let count = lists::count(&marks, n, row);
+    let rows = &mut noted[..n];
+    let mut table = [[false; ROWS]; ROWS];
+    steps::put_steps(file, rows, &mut table);
+    let Some(reached) = graph::reach(&table, n, row) else {
+        return Err(Refusal::Circle);
+    };
+    let marks = &reached[..n];
+    let count = lists::count(marks, row);
     if list.len() < count {
-        return AncestorsAnswer::Refused(refusals::NO_ROOM);
+        return Err(Refusal::NoRoom);
     }
-    lists::put_rows(list, &marks, n, row);
-    AncestorsAnswer::Reached(count, lists::missing(&marks, &counts, n))
+    lists::put_rows(list, marks, row);
+    Ok(Reached {
+        count,
+        missing: lists::missing(marks, rows),
+    })
 }

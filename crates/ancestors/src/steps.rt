@@ -1,86 +1,64 @@
-// Which row's dependencies name which row, as a table of 64 x 64 bytes, and how many of each row's dependencies name no row.
-ghost use Rattle.std.specs.Prelude.{◌≡◌, ◌+◌, ◌≤◌, ◌<◌, length, replicate};
+// Which row's dependencies name which row, as the table of the crate graph, and how many of each row's dependencies name no row.
+ghost use Rattle.std.specs.Prelude.{false, ◌≡◌, ◌+◌, ◌≤◌, ◌<◌, length, replicate, MatchOption};
 ghost use Rattle.metafile.specs.Bytes.{part};
 ghost use Rattle.metafile.specs.Reading.{rows_of};
 ghost use Rattle.metafile.specs.Calls.{row_with};
 ghost use Rattle.metafile.specs.Ancestors.{missing_of};
-ghost use Rattle.ancestors.specs.Noted.{ChunkAt, Noted, Serials};
+ghost use Rattle.ancestors.specs.Noted.{AllNoted};
 ghost use Rattle.ancestors.specs.Steps.{Tabled, Counted};
 
+use crate::rows::NotedRow;
+use graph::Table;
 use table::places;
-
-pub const TABLE: usize = 4096;
 
 // "Serials are compared by their first 35 bytes."
 const COMPARED: usize = 35;
 
-// The row with the serial number at a place of the file; the number of rows where there is none.
-fn row_with(file: &[u8], serials: &[usize], n: usize, serial: usize) -> usize
-    requires serials { Serials file.now n serials.now }
+// The row with the serial number at a place of the file.
+fn row_with(file: &[u8], rows: &[NotedRow], serial: usize) -> Option<usize>
+    requires noted { AllNoted file.now rows.now }
     requires serial_in_bounds { serial + 38 ≤ length file.now }
-    ensures { result ≡ row_with (part serial 38 file.now) (rows_of file.now) }
+    ensures { MatchOption result
+        (length rows.now ≤ row_with (part serial 38 file.now) (rows_of file.now))
+        (λ i. (i < length rows.now) × (i ≡ row_with (part serial 38 file.now) (rows_of file.now))) }
 {
-    let end = serial + COMPARED;
-    let mut i: usize = 0;
-    while i < n {
-        let own = serials[i];
-        if search::same_bytes(&file[serial..end], &file[own..own + COMPARED]) {
-            return i;
+    let sought = &file[serial..serial + COMPARED];
+    for (i, row) in rows.iter().enumerate() {
+        let own = row.serial;
+        if search::same_bytes(sought, &file[own..own + COMPARED]) {
+            return Some(i);
         }
-        i += 1;
     }
-    n
+    None
 }
 
-// The steps of a row, whose chunk begins at a place of the file and has so many dependencies, behind those of the rows before it.
-// Answers how many of them name no row.
-fn put_row(
-    file: &[u8],
-    serials: &[usize],
-    n: usize,
-    row: usize,
-    place: usize,
-    count: usize,
-    table: &mut [u8],
-) -> usize
-    requires serials { Serials file.now n serials.now }
-    requires row_lt_n { row < n }
-    requires chunk_at { ChunkAt file.now row place count }
-    requires tabled { Tabled file.now n row table.old }
-    ensures { (result ≡ missing_of file.now row) × Tabled file.now n (row + 1) table.new }
+// The steps of a row, behind those of the rows before it. Answers how many of its dependencies name no row.
+fn put_row(file: &[u8], rows: &[NotedRow], row: usize, table: &mut Table) -> usize
+    requires noted { AllNoted file.now rows.now }
+    requires row_in_bounds { row < length rows.now }
+    requires tabled { Tabled file.now (length rows.now) row table.old }
+    ensures { (result ≡ missing_of file.now row) × Tabled file.now (length rows.now) (row + 1) table.new }
 {
-    let first = place + places::DEPENDENCIES + places::DEPENDENCY_SERIAL;
+    let own = rows[row];
+    let first = own.place + places::DEPENDENCIES + places::DEPENDENCY_SERIAL;
     let mut missing: usize = 0;
-    let mut j: usize = 0;
-    while j < count {
-        let parent = row_with(file, serials, n, first + places::DEPENDENCY_BYTES * j);
-        if parent < n {
-            table[row * graph::ROWS + parent] = 1;
-        } else {
-            missing += 1;
+    for j in 0..own.dependencies {
+        match row_with(file, rows, first + places::DEPENDENCY_BYTES * j) {
+            Some(parent) => table[row][parent] = true,
+            None => missing += 1,
         }
-        j += 1;
     }
     missing
 }
 
-// The steps of all rows into an empty table. Each row's dependency count becomes the count of those that name no row.
-pub fn put_steps(
-    file: &[u8],
-    places: &[usize],
-    serials: &[usize],
-    counts: &mut [usize],
-    n: usize,
-    table: &mut [u8],
-)
-    requires noted { Noted file.now n places.now serials.now counts.old }
-    requires serials { Serials file.now n serials.now }
-    requires table_value { table.old ≡ replicate 4096 0 }
-    ensures { Tabled file.now n n table.new × Counted file.now n counts.new }
+// The steps of all rows into an empty table, and how many dependencies of each row name no row.
+pub fn put_steps(file: &[u8], rows: &mut [NotedRow], table: &mut Table)
+    requires noted { AllNoted file.now rows.old }
+    requires table_value { table.old ≡ replicate 64 (replicate 64 false) }
+    ensures { Tabled file.now (length rows.old) (length rows.old) table.new × Counted file.now rows.new }
 {
-    let mut row: usize = 0;
-    while row < n {
-        counts[row] = put_row(file, serials, n, row, places[row], counts[row], table);
-        row += 1;
+    for row in 0..rows.len() {
+        let missing = put_row(file, rows, row, table);
+        rows[row].missing = missing;
     }
 }

@@ -19,8 +19,8 @@ use Rattle.metafile.specs.Closing.{integrity_lines, integrity_values, summed_byt
 use Rattle.metafile.specs.Header.{mark_of, header_fault}
 use Rattle.metafile.specs.Chunk.{head}
 use Rattle.metafile.specs.Reading.{reading}
-use Rattle.metafile.specs.declared.AppendAnswer.{AppendAnswer}
-use Rattle.metafile.specs.declared.AppendAnswer.TheVariants.{Ends}
+use Rattle.std.specs.declared.result.Result.TheVariants.{Ok}
+use Rattle.metafile.specs.declared.Ends.{Ends}
 use Rattle.metafile.specs.Answers.{outcome, append_answer, first_refusal, placed, unless_refused}
 use Rattle.metafile.specs.Append.{Given, integrity_given, given_values, append_formed, head_values, content_count_for, first_write, third_write, new_chunk, first_end, second_end, third_end, append_tests, append}
 use Rattle.metafile.specs.Demand.{Accepted}
@@ -108,6 +108,9 @@ module _ (buffer : List ℕ) (len : ℕ) (g : Given) (e : first_refusal (append_
         third-long = three;
         room = omega (arith, l.room);
       }
+
+abbrev pub three_ends : ℕ → ℕ → ℕ → Ends
+three_ends e₁ e₂ e₃ = record { first = e₁; second = e₂; third = e₃ }
 
 -- ---- the first write
 
@@ -209,7 +212,7 @@ module _ (buffer : List ℕ) (len : ℕ) (g : Given) (a : Going buffer len g) wh
       → e₁ ≡ first_end (take len buffer) g → b₁ ≡ placed len (first_write (take len buffer) g) buffer
       → e₂ ≡ e₁ + length g.contents → b₂ ≡ placed e₁ g.contents b₁
       → e₃ ≡ e₂ + length m + 254 + length m → b₃ ≡ placed e₂ (closing_for m (chopped integrity_lines values) (part len (e₂ - len) b₂)) b₂
-      → (Ends e₁ e₂ e₃ ≡ ends_of (take len buffer) g) × (b₃ ≡ placed len (new_chunk (take len buffer) g) buffer)
+      → (three_ends e₁ e₂ e₃ ≡ ends_of (take len buffer) g) × (b₃ ≡ placed len (new_chunk (take len buffer) g) buffer)
   unfolding first_end second_end third_end new_chunk
   chunk-put m values b₁ b₂ b₃ e₁ e₂ e₃ em ev f₁ q₁ f₂ q₂ f₃ q₃ =
       let old : List ℕ = take len buffer in
@@ -237,7 +240,7 @@ module _ (buffer : List ℕ) (len : ℕ) (g : Given) (a : Going buffer len g) wh
 -- ---- the outcome
 
 module _ (buffer : List ℕ) (len : ℕ) (g : Given) where
-  pub outcome-written : (r : AppendAnswer) (after : List ℕ) → 0 ≡ first_refusal (append_tests buffer len g) → r ≡ ends_of (take len buffer) g
-      → after ≡ placed len (new_chunk (take len buffer) g) buffer → outcome (append_answer r) after ≡ append buffer len g
+  pub outcome-written : (r : Ends) (after : List ℕ) → 0 ≡ first_refusal (append_tests buffer len g) → r ≡ ends_of (take len buffer) g
+      → after ≡ placed len (new_chunk (take len buffer) g) buffer → outcome (append_answer (Ok r)) after ≡ append buffer len g
   unfolding append append_answer
   outcome-written r after e er ea = rw (er, ea) (outcome-done (append_tests buffer len g) buffer _ (sym e))

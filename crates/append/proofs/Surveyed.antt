@@ -3,7 +3,7 @@
 --     tests-are     13, 9 and 15 by it are those of append
 --     located       the rows named as parents that passed 13
 -- Assumes nothing.
-use Prim.Native.Nat.{ℕ, ◌-◌, ◌≤◌}
+use Prim.Native.Nat.{ℕ, ◌≤◌}
 use mathlib.Core.Bool.{true}
 use mathlib.Core.List.{List}
 use mathlib.Core.Path.{◌≡◌, ap}

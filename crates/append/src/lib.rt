@@ -15,7 +15,17 @@ ghost use Rattle.metafile.specs.Answers.{outcome, append_answer};
 ghost use Rattle.metafile.specs.Append.{append};
 ghost use Rattle.append.specs.Given.{given_of};
 
-use metafile::{AppendAnswer, Description, refusals};
+use metafile::{Description, Ends, Refusal};
+
+// What append is given beside the buffer and the file's length in it.
+#[derive(Clone, Copy)]
+struct Given<'a> {
+    description: Description,
+    parents: &'a [usize],
+    specific: &'a [u8],
+    contents: &'a [u8],
+    is_open: bool,
+}
 
 pub fn append(
     buffer: &mut [u8],
@@ -25,42 +35,21 @@ pub fn append(
     specific: &[u8],
     contents: &[u8],
     open: bool,
-) -> AppendAnswer
+) -> Result<Ends, Refusal>
     ensures { outcome (append_answer result) buffer.new
         ≡ append buffer.old length (given_of description parents.now specific.now contents.now «open») }
 {
-    let serial = description.serial;
-    if tests::over_limit(
-        buffer.len(),
-        length,
-        specific.len(),
-        contents.len(),
-        description,
-    ) {
-        return AppendAnswer::Refused(refusals::OVER_LIMIT);
-    }
-    let survey = walk::survey(&buffer[..length], serial, parents);
-    let number = tests::refusal(
-        buffer,
-        length,
+    let given = Given {
         description,
         parents,
         specific,
         contents,
-        open,
-        survey,
-    );
-    if number != 0 {
-        return AppendAnswer::Refused(number);
+        is_open: open,
+    };
+    if given.over_limit(buffer, length) {
+        return Err(Refusal::OverLimit);
     }
-    write::put_chunk(
-        buffer,
-        length,
-        description,
-        parents,
-        specific,
-        contents,
-        open,
-        survey,
-    )
+    let survey = walk::survey(&buffer[..length], description.serial, parents);
+    given.refusal(buffer, length, survey)?;
+    Ok(given.put_chunk(buffer, length, survey))
 }

@@ -5,27 +5,21 @@
 // the crate lines, from the table of lines; the values of the integrity data are put together by the crate writer.
 #![tactic(auto)]
 
-ghost use Rattle.std.specs.Prelude.{◌≡◌, true, [], ◌∷◌, ◌++◌, ◌≤◌, length};
+ghost use Rattle.std.specs.Prelude.{◌≡◌, true, ◌++◌, ◌≤◌, length};
 ghost use Rattle.metafile.specs.Bytes.{same};
 ghost use Rattle.metafile.specs.Lines.{NUL};
-ghost use Rattle.metafile.specs.Fields.{digits_of};
-ghost use Rattle.metafile.specs.Answers.{outcome, begin_answer, over_limit, first_refusal, placed};
+ghost use Rattle.metafile.specs.Fields.{digits_of, padded};
+ghost use Rattle.metafile.specs.Refusals.{fault_in};
+ghost use Rattle.metafile.specs.Answers.{outcome, count_answer, first_refusal, placed};
 ghost use Rattle.metafile.specs.Begin.{begun_file, begin_formed, begin_tests, begin};
-ghost use Rattle.begin.specs.Given.{given_of};
+ghost use Rattle.begin.specs.Given.{given_of, given_in};
 
 use lines::words;
-use metafile::{BeginAnswer, LIMIT, refusals};
+use metafile::{Refusal, over_limit};
 use table::{numbers, places};
 
 // The header's bytes beside its two marks: the 65 bytes and the integrity data.
 const HEADER: usize = places::MARK + places::INTEGRITY_BYTES;
-
-// "11 a lent byte buffer over 2^30".
-fn over_limit(a: usize, b: usize, c: usize, d: usize) -> bool
-    ensures { result ≡ over_limit (a ∷ b ∷ c ∷ d ∷ []) }
-{
-    (LIMIT < a) | (LIMIT < b) | (LIMIT < c) | (LIMIT < d)
-}
 
 // The strategy is NUL.
 fn is_nul(strategy: [u8; 3]) -> bool
@@ -44,85 +38,89 @@ fn title_values(strategy: [u8; 3], mark: usize) -> [u8; 6]
     values
 }
 
-// Strategy, mark length, serial number, dates and agents are in form, as the reader judges them; no text is over-long.
-fn is_formed(
+// What begin is given beside the buffer.
+#[derive(Clone, Copy)]
+struct Given<'a> {
     strategy: [u8; 3],
-    mark: &[u8],
+    mark: &'a [u8],
     serial: [u8; 38],
     recorded: [u8; 8],
-    recorder: &[u8],
+    recorder: &'a [u8],
     written: [u8; 8],
-    writer: &[u8],
-) -> bool
-    ensures { result ≡ begin_formed (given_of strategy mark.now serial recorded recorder.now written writer.now) }
-{
-    if 999 < mark.len() {
-        return false;
-    }
-    if places::AGENT < recorder.len() {
-        return false;
-    }
-    if places::AGENT < writer.len() {
-        return false;
-    }
-    let title = title_values(strategy, mark.len());
-    let values = writer::integrity_values(serial, recorded, recorder, written, writer);
-    lines::values_formed(numbers::FORMAT_ID, 2, &title)
-        & lines::values_formed(numbers::CHUNK_SERIAL, 5, &values)
+    writer: &'a [u8],
 }
 
-// "begin 11, 6, 2, 3, 15, 18": the first test that refuses; 0 where none does.
-fn refusal(
-    strategy: [u8; 3],
-    mark: &[u8],
-    serial: [u8; 38],
-    recorded: [u8; 8],
-    recorder: &[u8],
-    written: [u8; 8],
-    writer: &[u8],
-    buffer: &[u8],
-) -> u8
-    ensures { result ≡ first_refusal (begin_tests (given_of strategy mark.now serial recorded recorder.now written writer.now) buffer.now) }
-{
-    if over_limit(buffer.len(), mark.len(), recorder.len(), writer.len()) {
-        return refusals::OVER_LIMIT;
+impl Given<'_> {
+    // The values of the integrity data's lines.
+    fn integrity_values(&self) -> [u8; 118]
+        requires { (length self.now.recorder.now ≤ 32) × (length self.now.writer.now ≤ 32) }
+        ensures { result ≡ self.now.serial ++ self.now.recorded ++ padded 32 self.now.recorder.now ++ self.now.written ++ padded 32 self.now.writer.now }
+    {
+        writer::integrity_values(
+            self.serial,
+            self.recorded,
+            self.recorder,
+            self.written,
+            self.writer,
+        )
     }
-    if !is_formed(strategy, mark, serial, recorded, recorder, written, writer) {
-        return refusals::FORM;
-    }
-    if is_nul(strategy) & (mark.len() == 0) {
-        return refusals::TAPE;
-    }
-    if lines::begins_mini(mark) {
-        return refusals::MINI_MARK;
-    }
-    if !writer::is_clear(mark) {
-        return refusals::ZERO_IN_MARK;
-    }
-    if buffer.len() < HEADER + 2 * mark.len() {
-        return refusals::NO_ROOM;
-    }
-    0
-}
 
-// The 65 bytes, and the closing that is summed over them.
-fn put_header(
-    buffer: &mut [u8],
-    strategy: [u8; 3],
-    mark: &[u8],
-    serial: [u8; 38],
-    recorded: [u8; 8],
-    recorder: &[u8],
-    written: [u8; 8],
-    writer: &[u8],
-) -> usize
-    requires { (begin_formed (given_of strategy mark.now serial recorded recorder.now written writer.now) ≡ true) × (length (begun_file (given_of strategy mark.now serial recorded recorder.now written writer.now)) ≤ length buffer.old) }
-    ensures { (result ≡ length (begun_file (given_of strategy mark.now serial recorded recorder.now written writer.now))) × (buffer.new ≡ placed 0 (begun_file (given_of strategy mark.now serial recorded recorder.now written writer.now)) buffer.old) }
-{
-    let title = title_values(strategy, mark.len());
-    let values = writer::integrity_values(serial, recorded, recorder, written, writer);
-    let at = lines::put_lines(buffer, 0, numbers::FORMAT_ID, 2, &title);
-    lines::put_closing(buffer, 0, at, mark, &values)
+    // Strategy, mark length, serial number, dates and agents are in form, as the reader judges them; no text is over-long.
+    fn is_formed(&self) -> bool
+        ensures { result ≡ begin_formed (given_in self.now) }
+    {
+        if 999 < self.mark.len()
+            || places::AGENT < self.recorder.len()
+            || places::AGENT < self.writer.len()
+        {
+            return false;
+        }
+        let title = title_values(self.strategy, self.mark.len());
+        lines::values_formed(numbers::FORMAT_ID, 2, &title)
+            & lines::values_formed(numbers::CHUNK_SERIAL, 5, &self.integrity_values())
+    }
+
+    // "begin 11, 6, 2, 3, 15, 18": the first test that refuses.
+    #[tactic(auto, unfolding(metafile::specs::Begin::begin_tests, metafile::specs::Answers::first_refusal, metafile::specs::Answers::refuse))]
+    fn refusal(&self, buffer: &[u8]) -> Result<(), Refusal>
+        ensures { fault_in result ≡ first_refusal (begin_tests (given_in self.now) buffer.now) }
+    {
+        if over_limit(&[
+            buffer.len(),
+            self.mark.len(),
+            self.recorder.len(),
+            self.writer.len(),
+        ]) {
+            return Err(Refusal::OverLimit);
+        }
+        if !self.is_formed() {
+            return Err(Refusal::Form);
+        }
+        if is_nul(self.strategy) & self.mark.is_empty() {
+            return Err(Refusal::Tape);
+        }
+        if lines::begins_mini(self.mark) {
+            return Err(Refusal::MiniMark);
+        }
+        if !writer::is_clear(self.mark) {
+            return Err(Refusal::ZeroInMark);
+        }
+        if buffer.len() < HEADER + 2 * self.mark.len() {
+            return Err(Refusal::NoRoom);
+        }
+        Ok(())
+    }
+
+    // The 65 bytes, and the closing that is summed over them.
+    fn put_header(&self, buffer: &mut [u8]) -> usize
+        requires { (begin_formed (given_in self.now) ≡ true) × (length (begun_file (given_in self.now)) ≤ length buffer.old) }
+        ensures { (result ≡ length (begun_file (given_in self.now))) × (buffer.new ≡ placed 0 (begun_file (given_in self.now)) buffer.old) }
+    {
+        let title = title_values(self.strategy, self.mark.len());
+        let values = self.integrity_values();
+        let at = lines::put_lines(buffer, 0, numbers::FORMAT_ID, 2, &title);
+        lines::put_closing(buffer, 0, at, self.mark, &values)
+    }
 }
 
 pub fn begin(
@@ -134,16 +132,18 @@ pub fn begin(
     written: [u8; 8],
     writer: &[u8],
     buffer: &mut [u8],
-) -> BeginAnswer
-    ensures { outcome (begin_answer result) buffer.new ≡ begin (given_of strategy mark.now serial recorded recorder.now written writer.now) buffer.old }
+) -> Result<usize, Refusal>
+    ensures { outcome (count_answer result) buffer.new ≡ begin (given_of strategy mark.now serial recorded recorder.now written writer.now) buffer.old }
 {
-    let number = refusal(
-        strategy, mark, serial, recorded, recorder, written, writer, buffer,
-    );
-    if number != 0 {
-        return BeginAnswer::Refused(number);
-    }
-    BeginAnswer::Written(put_header(
-        buffer, strategy, mark, serial, recorded, recorder, written, writer,
-    ))
+    let given = Given {
+        strategy,
+        mark,
+        serial,
+        recorded,
+        recorder,
+        written,
+        writer,
+    };
+    given.refusal(buffer)?;
+    Ok(given.put_header(buffer))
 }

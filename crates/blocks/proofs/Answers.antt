@@ -4,32 +4,35 @@
 --     unpack-11 unpack-wrong unpack-18 unpack-done   those of unpack
 -- Assumes nothing.
 use Rattle.std.proofs.Common.{◌≡◌, ℕ, ◌<◌, ◌≤◌, true, false, not, List, [], ◌∷◌, length, sym, ap, ◌∙◌, arith, le-ltb, lt-ltb}
+use Rattle.std.specs.declared.result.Result.TheVariants.{Ok, Err}
 use Rattle.metafile.specs.Bytes.{non_zero}
-use Rattle.metafile.specs.Answers.{outcome, over_limit, placed}
+use Rattle.metafile.specs.Answers.{outcome, over_limit, placed, count_answer}
+use Rattle.metafile.specs.Refusals.{number_of}
+use Rattle.metafile.specs.declared.refusal.Refusal.{Refusal}
+use Rattle.metafile.specs.declared.refusal.Refusal.TheVariants.{OverLimit, NoRoom}
 use Rattle.laws.proofs.First.{is_zero-is, is_zero-not}
 use Rattle.laws.proofs.Accepted.{refusal-first, refusal-next, tests-end}
 use Rattle.laws.proofs.Outcomes.{outcome-refused, outcome-done}
-use Rattle.blocks.specs.declared.PackAnswer.TheVariants.{Packed, Refused as PackRefused}
-use Rattle.blocks.specs.declared.UnpackAnswer.TheVariants.{Unpacked, Refused as UnpackRefused}
-use Rattle.blocks.specs.Blocks.{packed, unpack_fault, unpacked, pack_tests, pack, pack_answer, unpack_tests, unpack, unpack_answer}
+use Rattle.lines.proofs.Runs.{refused}
+use Rattle.blocks.specs.Blocks.{packed, unpack_fault, unpacked, pack_tests, pack, unpack_tests, unpack}
 
 -- ---- pack
 
 module _ (file buffer : List ℕ) where
-  pub pack-11 : over_limit (length file ∷ length buffer ∷ []) ≡ true → outcome (pack_answer (PackRefused 11)) buffer ≡ pack file buffer
-  unfolding pack pack_tests pack_answer
+  pub pack-11 : over_limit (length file ∷ length buffer ∷ []) ≡ true → outcome (count_answer (Err OverLimit)) buffer ≡ pack file buffer
+  unfolding pack pack_tests count_answer
   pack-11 e = outcome-refused _ buffer _ 11 (sym (refusal-first 11 _ _ e)) (λ z. omega arith)
 
   module _ (within : over_limit (length file ∷ length buffer ∷ []) ≡ false) where
-    pub pack-18 : length buffer < length (packed file) → outcome (pack_answer (PackRefused 18)) buffer ≡ pack file buffer
-    unfolding pack pack_tests pack_answer
+    pub pack-18 : length buffer < length (packed file) → outcome (count_answer (Err NoRoom)) buffer ≡ pack file buffer
+    unfolding pack pack_tests count_answer
     pack-18 h =
         outcome-refused _ buffer _ 18
         (sym (refusal-next 11 _ _ within ∙ refusal-first 18 _ [] (lt-ltb (length buffer) (length (packed file)) h))) (λ z. omega arith)
 
     pub pack-done : {n : ℕ} {last : List ℕ} → n ≡ length (packed file) → n ≤ length buffer → last ≡ placed 0 (packed file) buffer
-        → outcome (pack_answer (Packed n)) last ≡ pack file buffer
-    unfolding pack pack_tests pack_answer
+        → outcome (count_answer (Ok n)) last ≡ pack file buffer
+    unfolding pack pack_tests count_answer
     pack-done {n} long fits e =
         let room : length (packed file) ≤ length buffer = omega arith in
         rw (long, e)
@@ -47,20 +50,21 @@ unfolding non_zero
 no-wrong f z = ap not (is_zero-is f z)
 
 module _ (x buffer : List ℕ) where
-  pub unpack-11 : over_limit (length x ∷ length buffer ∷ []) ≡ true → outcome (unpack_answer (UnpackRefused 11)) buffer ≡ unpack x buffer
-  unfolding unpack unpack_tests unpack_answer
+  pub unpack-11 : over_limit (length x ∷ length buffer ∷ []) ≡ true → outcome (count_answer (Err OverLimit)) buffer ≡ unpack x buffer
+  unfolding unpack unpack_tests count_answer
   unpack-11 e = outcome-refused _ buffer _ 11 (sym (refusal-first 11 _ _ e)) (λ z. omega arith)
 
   module _ (within : over_limit (length x ∷ length buffer ∷ []) ≡ false) where
-    pub unpack-wrong : {f : ℕ} → f ≡ unpack_fault x → (f ≡ 0 → ⊥) → outcome (unpack_answer (UnpackRefused f)) buffer ≡ unpack x buffer
-    unfolding unpack unpack_tests unpack_answer
-    unpack-wrong {f} e n =
-        outcome-refused _ buffer _ f
-        (e ∙ sym (refusal-next 11 _ _ within ∙ refusal-first (unpack_fault x) _ _ (is-wrong (unpack_fault x) (λ z. n (e ∙ z))))) n
+    pub unpack-wrong : (r : Refusal) → number_of r ≡ unpack_fault x → outcome (count_answer (Err r)) buffer ≡ unpack x buffer
+    unfolding unpack unpack_tests count_answer
+    unpack-wrong r e =
+        let some : number_of r ≡ 0 → ⊥ = refused r in
+        outcome-refused _ buffer _ (number_of r)
+        (e ∙ sym (refusal-next 11 _ _ within ∙ refusal-first (unpack_fault x) _ _ (is-wrong (unpack_fault x) (λ z. some (e ∙ z))))) some
 
     module _ (right : unpack_fault x ≡ 0) where
-      pub unpack-18 : length buffer < length (unpacked x) → outcome (unpack_answer (UnpackRefused 18)) buffer ≡ unpack x buffer
-      unfolding unpack unpack_tests unpack_answer
+      pub unpack-18 : length buffer < length (unpacked x) → outcome (count_answer (Err NoRoom)) buffer ≡ unpack x buffer
+      unfolding unpack unpack_tests count_answer
       unpack-18 h =
           outcome-refused _ buffer _ 18
           (sym (refusal-next 11 _ _ within
@@ -68,8 +72,8 @@ module _ (x buffer : List ℕ) where
           ∙ refusal-first 18 _ [] (lt-ltb (length buffer) (length (unpacked x)) h))) (λ z. omega arith)
 
       pub unpack-done : {n : ℕ} {last : List ℕ} → n ≡ length (unpacked x) → n ≤ length buffer → last ≡ placed 0 (unpacked x) buffer
-          → outcome (unpack_answer (Unpacked n)) last ≡ unpack x buffer
-      unfolding unpack unpack_tests unpack_answer
+          → outcome (count_answer (Ok n)) last ≡ unpack x buffer
+      unfolding unpack unpack_tests count_answer
       unpack-done {n} long fits e =
           let room : length (unpacked x) ≤ length buffer = omega arith in
           rw (long, e)

@@ -4,11 +4,11 @@
 -- Assumes nothing.
 use Rattle.std.proofs.Common.{◌≡◌, ℕ, zero, suc, ◌^◌, ◌≤◌, true, false, List, [], ◌∷◌, length, take, sym, refl, ap, ◌∙◌, arith, ltb-false}
 use Rattle.metafile.specs.Bytes.{all, is_zero, non_zero}
-use Rattle.metafile.specs.Answers.{result, Test, refuse, first_refusal, over_limit, Outcome, outcome, placed}
+use Rattle.metafile.specs.Answers.{result, Test, refuse, first_refusal, over_limit, Outcome, outcome, placed, count_answer}
 use Rattle.laws.proofs.First.{untrue}
 use Rattle.laws.proofs.Loops.{placed-start}
 use Rattle.laws.proofs.Accepted.{refusal-none, limit-within, limit-under, limit-small, accepted-none, accepted-is}
-use Rattle.blocks.specs.Blocks.{packed, unpack_fault, unpacked, pack_tests, pack, pack_answer, unpack_tests, unpack, unpack_answer, is_byte}
+use Rattle.blocks.specs.Blocks.{packed, unpack_fault, unpacked, pack_tests, pack, unpack_tests, unpack, is_byte}
 use Rattle.blocks.proofs.Answers.{pack-done, unpack-done}
 use Rattle.blocks.proofs.Packed.{unpack-pack, pack-unpack, unpacked-short}
 
@@ -64,7 +64,7 @@ was-unpacked x room n e =
 -- what pack gave, unpacked into a buffer with room for the file
 pub unpack-of-pack : (f buffer room : List ℕ) (n : ℕ) → (pack f buffer).answer ≡ result (n ∷ []) → length f ≤ length room → length room ≤ 2 ^ 30
     → unpack (take n (pack f buffer).buffer) room ≡ outcome (result (length f ∷ [])) (placed 0 f room)
-unfolding unpack_answer
+unfolding count_answer
 unpack-of-pack f buffer room n e fits few =
     let w = was-packed f buffer n e in
     let back = unpack-pack f w.few in
@@ -76,7 +76,7 @@ unpack-of-pack f buffer room n e fits few =
 -- what unpack took, made again by pack from what it gave
 pub pack-of-unpack : (x room buffer : List ℕ) (n : ℕ) → all is_byte x ≡ true → (unpack x room).answer ≡ result (n ∷ []) → length x ≤ length buffer → length buffer ≤ 2 ^ 30
     → pack (take n (unpack x room).buffer) buffer ≡ outcome (result (length x ∷ [])) (placed 0 x buffer)
-unfolding pack_answer
+unfolding count_answer
 pack-of-unpack x room buffer n bytes e fits few =
     let w = was-unpacked x room n e in
     let again = pack-unpack x bytes w.right in

@@ -1,21 +1,25 @@
 -- Blocks and data by their places, as code goes through them.
 --     non_zero-ltb                       a number above 0, as code tests it
---     zero_more                         one zero more
---     spare-other spare-next spare-end  the loop that looks for a byte that isn't zero
+--     all-zeros zeros-put               bytes that are all zero, tested and put
 --     slice_cut spare-part              a part that may end with the bytes; the spare bytes of a block
+--     blocks-counted                    how many blocks there are, as code counts them
 --     block_inside fault-is             a block begins inside; its fault
 --     empty-fault some-fault            no bytes, and some
 --     data-inside data_is               the data of a block begin inside, and are a part of the file
 --     put-there                         bytes that were put stand where they were put
 -- Assumes nothing.
-use Rattle.std.proofs.Common.{◌≡◌, ℕ, zero, suc, ◌+◌, ◌-◌, ◌*◌, ◌<◌, ◌≤◌, min, true, false, not, eqb, ltb, leb, List, [], ◌∷◌, ◌++◌, length, get_or, take, drop, replicate, sym, refl, ap, ◌∙◌, add-one, arith, length-drop, drop_of_length-le, length-take-le, take_all, drop-cons, drop_at, le-ltb, lt-ltb, leb-false, leb-true}
-use lib.ListN.{replicate-append-replicate}
+use Rattle.std.proofs.Common.{◌≡◌, ℕ, zero, suc, ◌+◌, ◌-◌, ◌*◌, ◌<◌, ◌≤◌, min, not, eqb, ltb, leb, List, [], ◌∷◌, ◌++◌, length, take, drop, replicate, sym, refl, ap, ◌∙◌, arith, length-drop, length-take-le, take_all, drop_at, le-ltb, lt-ltb, leb-false, leb-true}
+use lib.ListN.{length-replicate}
 use lib.Seq.{take-append_seam}
+use borrow.Rule.Slice.PartMut.{put_mid}
+use Rattle.std.specs.Int.{div_ceil}
+use Rattle.std.specs.List.{list_all}
 use Rattle.metafile.specs.Bytes.{part, all, is_zero, non_zero, is_empty}
 use Rattle.metafile.specs.Below.{fault_below}
 use Rattle.metafile.specs.Answers.{placed}
-use Rattle.laws.proofs.First.{test, is_zero-is, is_zero-not}
+use Rattle.laws.proofs.First.{test, is_zero-eqb}
 use Rattle.laws.proofs.Stages.{unmet, met}
+use Rattle.table.proofs.Labels.{copied}
 use Rattle.text.specs.Put.{Put}
 use Rattle.blocks.specs.Blocks.{block, block_count, data_at, block_for, blocks_of, block_of, block_fault, fault_of, unpack_fault}
 
@@ -24,27 +28,25 @@ unfolding non_zero is_zero
 non_zero-ltb zero = le-ltb 0 0 (omega arith)
 non_zero-ltb (suc n) = lt-ltb 0 (suc n) (omega arith)
 
-pub zero_more : (k : ℕ) → ◌++◌ {A = ℕ} (replicate k 0) (0 ∷ []) ≡ replicate (k + 1) 0
-zero_more k = replicate-append-replicate k 1 0
-
 -- ---- bytes that are all zero
 
-module _ (s : List ℕ) (i : ℕ) (e : all is_zero s ≡ all is_zero (drop i s)) where
-  pub spare-other : i < length s → (get_or s i 0 ≡ 0 → ⊥) → false ≡ all is_zero s
-  unfolding all
-  spare-other h n = sym (e ∙ rw (drop-cons s i 0 h, is_zero-not (get_or s i 0) n))
+pub all-zeros : (s : List ℕ) → list_all (λ x. eqb x 0) s ≡ all is_zero s
+unfolding all
+all-zeros [] = refl
+all-zeros (x ∷ s) = rw (is_zero-eqb x, all-zeros s)
 
-  pub spare-next : i < length s → get_or s i 0 ≡ 0 → all is_zero s ≡ all is_zero (drop (i + 1) s)
-  unfolding all
-  spare-next h z = e ∙ rw (drop-cons s i 0 h, is_zero-is (get_or s i 0) z, add-one i)
-
-  pub spare-end : length s ≤ i → true ≡ all is_zero s
-  unfolding all
-  spare-end h = sym (e ∙ rw (drop_of_length-le s {i = i} h))
+pub zeros-put : (at n : ℕ) (b ys : List ℕ) → at + n ≤ length b → ys ≡ replicate n 0 → Put (replicate n 0) at b (at + n) (put_mid at (at + n - at) b ys)
+zeros-put at n b ys h e =
+    let long : length (replicate {A = ℕ} n 0) ≡ n = length-replicate n 0 in
+    record {
+      end_is = omega (arith, long);
+      fits = h;
+      bytes-are = copied at n (replicate n 0) b ys (sym long) e;
+    }
 
 -- ---- parts
 
-pub slice_cut : (a w e : ℕ) (s : List ℕ) → e ≡ min (a + w) (length s) → take (e - a) (drop a s) ≡ part a w s
+pub slice_cut : (a w e : ℕ) (s : List ℕ) → e ≡ min (length s) (a + w) → take (e - a) (drop a s) ≡ part a w s
 slice_cut a w e s q =
     test (leb (a + w) (length s))
     (λ t. let inside = leb-true (a + w) (length s) t in let n : e - a ≡ w = omega arith in rw n)
@@ -55,11 +57,15 @@ slice_cut a w e s q =
 pub spare-part : (u v : ℕ) (b : List ℕ) → u ≡ v → take (510 - (6 + u)) (drop (6 + u) b) ≡ part (6 + v) (504 - v) b
 spare-part u v b e = let n : 510 - (6 + v) ≡ 504 - v = omega arith in rw (e, n)
 
+pub blocks-counted : (x : List ℕ) → div_ceil (length x) 512 ≡ blocks_of x
+unfolding blocks_of
+blocks-counted x = omega arith
+
 pub block_inside : (x : List ℕ) (i : ℕ) → i < blocks_of x → 512 * i < length x
 unfolding blocks_of
 block_inside x i h = omega arith
 
-pub fault-is : (x : List ℕ) (i count e r : ℕ) → count ≡ blocks_of x → e ≡ min (512 * i + 512) (length x)
+pub fault-is : (x : List ℕ) (i count e r : ℕ) → count ≡ blocks_of x → e ≡ min (length x) (512 * i + 512)
     → r ≡ block_fault (eqb (i + 1) count) i (take (e - 512 * i) (drop (512 * i) x)) → r ≡ fault_of x i
 unfolding fault_of block_of
 fault-is x i count e r n q f = rw (slice_cut (512 * i) 512 e x q, n) at f
@@ -78,7 +84,7 @@ pub data-inside : (f : List ℕ) (i : ℕ) → i < block_count (length f) → 50
 unfolding block_count
 data-inside f i h = omega arith
 
-pub data_is : (f : List ℕ) (i e : ℕ) → e ≡ min (504 * i + 504) (length f) → block i (take (e - 504 * i) (drop (504 * i) f)) ≡ block_for f i
+pub data_is : (f : List ℕ) (i e : ℕ) → e ≡ min (length f) (504 * i + 504) → block i (take (e - 504 * i) (drop (504 * i) f)) ≡ block_for f i
 unfolding block_for data_at
 data_is f i e q = ap (block i) (slice_cut (504 * i) 504 e f q)
 

@@ -2,12 +2,8 @@
 -- is judged. Assumes nothing.
 use Rattle.std.specs.Prelude.{ℕ, zero, suc, ◌+◌, ◌-◌, ◌*◌, ◌/◌, ◌%◌, Bool, not, ◌&&◌, ◌||◌, List, [], ◌∷◌, ◌++◌, length, take, replicate, ◌==◌, nat_le, nat_lt}
 use Rattle.metafile.specs.Bytes.{part, all, is_zero, non_zero, is_empty, total, ◌⊳◌, require}
-use Rattle.metafile.specs.Answers.{Answer, result, refused, Test, refuse, over_limit, Outcome, outcome, placed, unless_refused}
+use Rattle.metafile.specs.Answers.{result, Test, refuse, over_limit, Outcome, outcome, placed, unless_refused}
 use Rattle.metafile.specs.Below.{join_below, fault_below}
-use Rattle.blocks.specs.declared.PackAnswer.{PackAnswer}
-use Rattle.blocks.specs.declared.PackAnswer.TheVariants.{Packed, Refused as PackRefused}
-use Rattle.blocks.specs.declared.UnpackAnswer.{UnpackAnswer}
-use Rattle.blocks.specs.declared.UnpackAnswer.TheVariants.{Unpacked, Refused as UnpackRefused}
 
 -- ---- numbers
 
@@ -124,11 +120,3 @@ unfoldable pub unpack : List ℕ → List ℕ → Outcome
 unpack x buffer =
     unless_refused (unpack_tests x buffer) buffer
     (outcome (result (length (unpacked x) ∷ [])) (placed 0 (unpacked x) buffer))
-
-unfoldable pub pack_answer : PackAnswer → Answer
-pack_answer (Packed length') = result (length' ∷ [])
-pack_answer (PackRefused n) = refused n
-
-unfoldable pub unpack_answer : UnpackAnswer → Answer
-unpack_answer (Unpacked length') = result (length' ∷ [])
-unpack_answer (UnpackRefused n) = refused n

@@ -1,83 +1,73 @@
 // The first wrong block: "tested for its sum with 27, its number with 28, then its use, a spare byte that isn't zero or a
 // partial block with 29".
-ghost use Rattle.std.specs.Prelude.{◌≡◌, ◌≤◌, length};
-ghost use Rattle.metafile.specs.Bytes.{all, is_zero};
+ghost use Rattle.std.specs.Prelude.{◌≡◌, ◌==◌, ◌≤◌, length};
+ghost use Rattle.std.specs.List.{list_all};
 ghost use Rattle.metafile.specs.Below.{fault_below};
+ghost use Rattle.metafile.specs.Refusals.{fault_in};
 ghost use Rattle.blocks.specs.Blocks.{use_right, block_fault, blocks_of, fault_of, unpack_fault};
 
-use crate::numbers::{big_value, block_sum, lesser};
-use metafile::refusals;
+use crate::numbers::{big_value, block_sum};
+use crate::{BLOCK, DATA, SUM};
+use metafile::Refusal;
 
 // "All blocks but the last use 504", the last up to 504, and 0 only as the first.
 fn use_right(last: bool, i: usize, used: usize) -> bool
     ensures { result ≡ use_right last i used }
 {
-    (used <= 504) & (last | (used == 504)) & ((i == 0) | (0 < used))
+    (used <= DATA) & (last | (used == DATA)) & ((i == 0) | (0 < used))
 }
 
 fn all_zero(s: &[u8]) -> bool
-    ensures { result ≡ all is_zero s.now }
+    ensures { result ≡ list_all (λ x. x == 0) s.now }
 {
-    let mut i: usize = 0;
-    while i < s.len() {
-        if s[i] != 0 {
-            return false;
-        }
-        i += 1;
-    }
-    true
+    s.iter().all(|x| *x == 0)
 }
 
-// The fault of block i, 0 where it is right.
-fn block_fault(b: &[u8], i: usize, last: bool) -> u8
+// The fault of block i.
+fn block_fault(b: &[u8], i: usize, last: bool) -> Result<(), Refusal>
     requires { length b.now ≤ 512 }
-    ensures { result ≡ block_fault last i b.now }
+    ensures { fault_in result ≡ block_fault last i b.now }
 {
-    if b.len() < 512 {
-        return refusals::BLOCK_USE;
+    if b.len() < BLOCK {
+        return Err(Refusal::BlockUse);
     }
-    if block_sum(&b[0..510]) as usize != big_value(&b[510..512]) {
-        return refusals::BLOCK_SUM;
+    if usize::from(block_sum(&b[0..SUM])) != big_value(&b[SUM..BLOCK]) {
+        return Err(Refusal::BlockSum);
     }
     if big_value(&b[0..4]) != i {
-        return refusals::BLOCK_NUMBER;
+        return Err(Refusal::BlockNumber);
     }
     let used = big_value(&b[4..6]);
     if !use_right(last, i, used) {
-        return refusals::BLOCK_USE;
+        return Err(Refusal::BlockUse);
     }
-    if !all_zero(&b[6 + used..510]) {
-        return refusals::BLOCK_USE;
+    if !all_zero(&b[6 + used..SUM]) {
+        return Err(Refusal::BlockUse);
     }
-    0
+    Ok(())
 }
 
 // "The first wrong block decides."
-fn blocks_fault(x: &[u8], count: usize) -> u8
+fn blocks_fault(x: &[u8], count: usize) -> Result<(), Refusal>
     requires x_len_bound { length x.now ≤ 1073741824 }
     requires count_value { count ≡ blocks_of x.now }
-    ensures { result ≡ fault_below count (fault_of x.now) }
+    ensures { fault_in result ≡ fault_below count (fault_of x.now) }
 {
-    let mut i: usize = 0;
-    while i < count {
-        let from = 512 * i;
-        let end = lesser(from + 512, x.len());
-        let fault = block_fault(&x[from..end], i, i + 1 == count);
-        if fault != 0 {
-            return fault;
-        }
-        i += 1;
+    for i in 0..count {
+        let from = BLOCK * i;
+        let end = x.len().min(from + BLOCK);
+        block_fault(&x[from..end], i, i + 1 == count)?;
     }
-    0
+    Ok(())
 }
 
-// The number with which a packed file is refused, 0 where it is taken.
-pub fn unpack_fault(x: &[u8]) -> u8
+// The refusal of a packed file.
+pub fn unpack_fault(x: &[u8]) -> Result<(), Refusal>
     requires { length x.now ≤ 1073741824 }
-    ensures { result ≡ unpack_fault x.now }
+    ensures { fault_in result ≡ unpack_fault x.now }
 {
     if x.len() == 0 {
-        return refusals::BLOCK_USE;
+        return Err(Refusal::BlockUse);
     }
-    blocks_fault(x, (x.len() + 511) / 512)
+    blocks_fault(x, x.len().div_ceil(BLOCK))
 }

@@ -7,69 +7,52 @@
 //     extract   the data taken out of blocks that are all right
 #![tactic(auto)]
 
-ghost use Rattle.std.specs.Prelude.{◌≡◌, [], ◌∷◌};
-ghost use Rattle.metafile.specs.Answers.{over_limit, outcome};
-ghost use Rattle.blocks.specs.Blocks.{pack, unpack, pack_answer, unpack_answer};
+ghost use Rattle.std.specs.Prelude.{◌≡◌};
+ghost use Rattle.metafile.specs.Answers.{outcome, count_answer};
+ghost use Rattle.blocks.specs.Blocks.{pack, unpack};
 
-use metafile::{LIMIT, refusals};
+use metafile::{Refusal, over_limit};
 
 mod extract;
 mod judge;
 mod numbers;
 mod write;
 
-// What pack answers: the length of the packed file.
-#[derive(Clone, Copy)]
-pub enum PackAnswer {
-    Packed(usize),
-    Refused(u8),
-}
+// A block's bytes, the data bytes of one, and the place of the sum.
+const BLOCK: usize = 512;
 
-// What unpack answers: the length of the file.
-#[derive(Clone, Copy)]
-pub enum UnpackAnswer {
-    Unpacked(usize),
-    Refused(u8),
-}
+const DATA: usize = 504;
 
-// "11 a lent byte buffer over 2^30": what is read and the buffer.
-fn over_limit(given: usize, buffer: usize) -> bool
-    ensures { result ≡ over_limit (given ∷ buffer ∷ []) }
+const SUM: usize = 510;
+
+// Writes the blocks of a file at the start of the buffer: the length of the packed file. Tests 11, 18.
+pub fn pack(file: &[u8], buffer: &mut [u8]) -> Result<usize, Refusal>
+    ensures { outcome (count_answer result) buffer.new ≡ pack file.now buffer.old }
 {
-    (LIMIT < given) | (LIMIT < buffer)
-}
-
-// Writes the blocks of a file at the start of the buffer. Tests 11, 18.
-pub fn pack(file: &[u8], buffer: &mut [u8]) -> PackAnswer
-    ensures { outcome (pack_answer result) buffer.new ≡ pack file.now buffer.old }
-{
-    if over_limit(file.len(), buffer.len()) {
-        return PackAnswer::Refused(refusals::OVER_LIMIT);
+    if over_limit(&[file.len(), buffer.len()]) {
+        return Err(Refusal::OverLimit);
     }
     let count = write::block_count(file.len());
-    let length = count * 512;
-    if buffer.len() < length {
-        return PackAnswer::Refused(refusals::NO_ROOM);
+    let packed = count * BLOCK;
+    if buffer.len() < packed {
+        return Err(Refusal::NoRoom);
     }
     write::put_blocks(buffer, file, count);
-    PackAnswer::Packed(length)
+    Ok(packed)
 }
 
-// Writes the file that the blocks carry at the start of the buffer. Tests 11, the blocks in order (27, 28, 29), 18.
-pub fn unpack(blocks: &[u8], buffer: &mut [u8]) -> UnpackAnswer
-    ensures { outcome (unpack_answer result) buffer.new ≡ unpack blocks.now buffer.old }
+// Writes the file that the blocks carry at the start of the buffer: its length. Tests 11, the blocks in order (27, 28, 29), 18.
+pub fn unpack(blocks: &[u8], buffer: &mut [u8]) -> Result<usize, Refusal>
+    ensures { outcome (count_answer result) buffer.new ≡ unpack blocks.now buffer.old }
 {
-    if over_limit(blocks.len(), buffer.len()) {
-        return UnpackAnswer::Refused(refusals::OVER_LIMIT);
+    if over_limit(&[blocks.len(), buffer.len()]) {
+        return Err(Refusal::OverLimit);
     }
-    let fault = judge::unpack_fault(blocks);
-    if fault != 0 {
-        return UnpackAnswer::Refused(fault);
-    }
+    judge::unpack_fault(blocks)?;
     let length = extract::unpacked_length(blocks);
     if buffer.len() < length {
-        return UnpackAnswer::Refused(refusals::NO_ROOM);
+        return Err(Refusal::NoRoom);
     }
     extract::put_file(buffer, blocks);
-    UnpackAnswer::Unpacked(length)
+    Ok(length)
 }

@@ -4,7 +4,8 @@ ghost use Rattle.metafile.specs.Answers.{placed};
 ghost use Rattle.text.specs.Put.{Put};
 ghost use Rattle.blocks.specs.Blocks.{block, block_count, packed};
 
-use crate::numbers::{block_sum, lesser, put_big};
+use crate::DATA;
+use crate::numbers::{block_sum, put_big};
 
 // "All blocks but the last use 504"; no bytes are one block.
 pub fn block_count(n: usize) -> usize
@@ -14,7 +15,7 @@ pub fn block_count(n: usize) -> usize
     if n == 0 {
         return 1;
     }
-    1 + (n - 1) / 504
+    1 + (n - 1) / DATA
 }
 
 // "spare data bytes are zero"
@@ -22,11 +23,7 @@ fn put_zeros(buffer: &mut [u8], at: usize, n: usize) -> usize
     requires { at + n ≤ length buffer.old }
     ensures { Put (replicate n 0) at buffer.old result buffer.new }
 {
-    let mut k: usize = 0;
-    while k < n {
-        buffer[at + k] = 0;
-        k += 1;
-    }
+    buffer[at..at + n].fill(0);
     at + n
 }
 
@@ -39,7 +36,7 @@ fn put_block(buffer: &mut [u8], at: usize, i: usize, v: &[u8]) -> usize
     let a = put_big(buffer, at, 4, i);
     let b = put_big(buffer, a, 2, v.len());
     let c = lines::put_bytes(buffer, b, v);
-    let d = put_zeros(buffer, c, 504 - v.len());
+    let d = put_zeros(buffer, c, DATA - v.len());
     let sum = block_sum(&buffer[at..d]);
     put_big(buffer, d, 2, sum as usize)
 }
@@ -52,11 +49,9 @@ pub fn put_blocks(buffer: &mut [u8], file: &[u8], count: usize)
     ensures { buffer.new ≡ placed 0 (packed file.now) buffer.old }
 {
     let mut at: usize = 0;
-    let mut i: usize = 0;
-    while i < count {
-        let from = 504 * i;
-        let end = lesser(from + 504, file.len());
+    for i in 0..count {
+        let from = DATA * i;
+        let end = file.len().min(from + DATA);
         at = put_block(buffer, at, i, &file[from..end]);
-        i += 1;
     }
 }

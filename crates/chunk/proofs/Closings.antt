@@ -16,7 +16,10 @@ use Rattle.metafile.specs.Closing.{summed, unsummed, closing, sum_place, sum_goo
 use Rattle.table.specs.Codes.{lines_from}
 use Rattle.laws.proofs.Distances.{lines, size-closing}
 use Rattle.laws.proofs.Stages.{fits}
-use Rattle.lines.specs.declared.reader.Taken.{Taken}
+use Rattle.std.specs.declared.result.Result.{Result}
+use Rattle.std.specs.declared.result.Result.TheVariants.{Ok, Err}
+use Rattle.metafile.specs.declared.refusal.Refusal.{Refusal}
+use Rattle.metafile.specs.Refusals.{number_of, fault_in}
 use Rattle.lines.specs.Parts.{Takes}
 use Rattle.lines.proofs.Runs.{takes-stop, takes-fits, takes-go}
 
@@ -28,29 +31,31 @@ is-closing : (m : List ℕ) → closing m ≡ (fixed m ∷ []) ++ (lines_of (lin
 unfolding closing summed unsummed lines lines_from table
 is-closing m = refl
 
--- the integrity data, as the field reader would answer them
-integrity-taken : (s : List ℕ) (at f : ℕ) → f ≡ run (lines_of (lines_from 16 6)) (drop at s) → Takes (lines_of (lines_from 16 6)) at s (record { fault = f; at = at + 254 })
-integrity-taken s at f e = record { first = e; behind = omega (arith, size-integrity) }
+module _ {m s : List ℕ} {at : ℕ} where
+  pub mark-stop : {x : Refusal} → Takes (fixed m ∷ []) at s (Err x) → number_of x ≡ run (closing m) (drop at s)
+  mark-stop {x = x} e = rw (is-closing m) (takes-stop (fixed m ∷ []) (lines_of (lines_from 16 6) ++ fixed m ∷ []) s at x e)
 
-module _ (m s : List ℕ) (at : ℕ) (first : Taken) (e : Takes (fixed m ∷ []) at s first) where
-  pub mark-stop : (first.fault ≡ 0 → ⊥) → first.fault ≡ run (closing m) (drop at s)
-  mark-stop n = rw (is-closing m) (takes-stop (fixed m ∷ []) (lines_of (lines_from 16 6) ++ fixed m ∷ []) s at first e n)
+  module _ {p : ℕ} (e : Takes (fixed m ∷ []) at s (Ok p)) where
+    pub mark-room : at ≤ length s → p ≤ length s
+    mark-room h = takes-fits (fixed m ∷ []) [] s at p e h
 
-  pub mark-room : at ≤ length s → first.fault ≡ 0 → first.at ≤ length s
-  mark-room = takes-fits (fixed m ∷ []) [] s at first e
+    behind : run (lines_of (lines_from 16 6) ++ fixed m ∷ []) (drop p s) ≡ run (closing m) (drop at s)
+    behind = rw (is-closing m) (takes-go (fixed m ∷ []) (lines_of (lines_from 16 6) ++ fixed m ∷ []) s at p e)
 
-  module _ (z : first.fault ≡ 0) (f : ℕ) (g : f ≡ run (lines_of (lines_from 16 6)) (drop first.at s)) where
-    behind : run (lines_of (lines_from 16 6) ++ fixed m ∷ []) (drop first.at s) ≡ run (closing m) (drop at s)
-    behind = rw (is-closing m) (takes-go (fixed m ∷ []) (lines_of (lines_from 16 6) ++ fixed m ∷ []) s at first e z)
+    pub integrity-stop : (x : Refusal) → number_of x ≡ run (lines_of (lines_from 16 6)) (drop p s) → number_of x ≡ run (closing m) (drop at s)
+    integrity-stop x g =
+        takes-stop (lines_of (lines_from 16 6)) (fixed m ∷ []) s p x (record { first = g; behind = tt }) ∙ behind
 
-    pub integrity-stop : (f ≡ 0 → ⊥) → f ≡ run (closing m) (drop at s)
-    integrity-stop n = takes-stop (lines_of (lines_from 16 6)) (fixed m ∷ []) s first.at _ (integrity-taken s first.at f g) n ∙ behind
+    module _ (g : 0 ≡ run (lines_of (lines_from 16 6)) (drop p s)) where
+      -- the integrity data, as the field reader would answer them
+      integrity-taken : Takes (lines_of (lines_from 16 6)) p s (Ok (p + 254))
+      integrity-taken = record { first = g; behind = omega (arith, size-integrity) }
 
-    pub integrity-room : at ≤ length s → f ≡ 0 → first.at + 254 ≤ length s
-    integrity-room h n = takes-fits (lines_of (lines_from 16 6)) [] s first.at _ (integrity-taken s first.at f g) (mark-room h z) n
+      pub integrity-room : at ≤ length s → p + 254 ≤ length s
+      integrity-room h = takes-fits (lines_of (lines_from 16 6)) [] s p (p + 254) integrity-taken (mark-room h)
 
-    pub closing-last : (q : ℕ) → f ≡ 0 → q ≡ run (fixed m ∷ []) (drop (first.at + 254) s) → q ≡ run (closing m) (drop at s)
-    closing-last q n l = l ∙ takes-go (lines_of (lines_from 16 6)) (fixed m ∷ []) s first.at _ (integrity-taken s first.at f g) n ∙ behind
+      pub closing-last : {q : Result ℕ Refusal} → Takes (fixed m ∷ []) (p + 254) s q → fault_in q ≡ run (closing m) (drop at s)
+      closing-last l = l.first ∙ takes-go (lines_of (lines_from 16 6)) (fixed m ∷ []) s p (p + 254) integrity-taken ∙ behind
 
 pub closing-fits : (m s : List ℕ) (at : ℕ) → run (closing m) (drop at s) ≡ 0 → at ≤ length s → at + length m + 254 + length m ≤ length s
 closing-fits m s at z h = omega (arith, fits (closing m) (length m + 254 + length m) at s (size-closing m) h z)

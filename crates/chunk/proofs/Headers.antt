@@ -1,61 +1,43 @@
 -- The header of a chunk, as its functions read it ("Lines in order: ..", "A length is tested once ..").
---     multi-name(-not)    the sub-format of a MultiChunk: 18 bytes and spaces; other 18 bytes
+--     multi-name          the sub-format of a MultiChunk
 --     head-split head-begun head-long   the lines up to the dependency count
 --     dependencies-below header-below offset-formed   what they say of their values
 --     lengths-..          the answers on the two lengths; header-bytes-is: the header's bytes
 --     dependencies-..     the loop over the dependencies
---     HeaderWhole         what a header without a fault says; headless-of: of one with a fault the number alone
+--     HeaderWhole         what a header without a fault says; head-refused: of one with a fault the number alone
 -- Assumes nothing.
-use Prim.Native.Nat.{ℕ, zero, suc, ◌+◌, ◌-◌, ◌*◌, ◌≤◌, ◌<◌}
-use mathlib.Core.Bool.{Bool, true, false, not, ◌&&◌, ◌||◌}
+use Prim.Native.Nat.{ℕ, suc, ◌+◌, ◌-◌, ◌*◌, ◌≤◌, ◌<◌}
+use mathlib.Core.Bool.{Bool, true, false, not, ◌||◌}
 use mathlib.Core.Path.{◌≡◌, refl, sym, ap, ◌∙◌}
 use mathlib.Core.List.{List, [], ◌∷◌, ◌++◌}
 use native.Mathlib.Omega.{arith}
 use lib.Dec.{leb, eqb}
-use lib.ListN.{length, take, drop, replicate, take-append-drop}
-use lib.Seq.{length-take-le}
+use lib.ListN.{length, drop}
 use borrow.Author.Tests.{leb-true, le-leb, lt-leb, eq-eqb, ne_eqb}
 use Rattle.metafile.specs.Bytes.{bytes, part, ◌⊳◌, require, is_zero, same}
 use Rattle.metafile.specs.Fields.{is_count, count_value, padded, is_offset}
 use Rattle.metafile.specs.Lines.{count, offset, free, fixed, value, Line, lf, i12, i4, opened, lines_of, count_fault, offset_fault, kind_fault, fault, run, table, chunk_header_length, sub_format_id, generic_type, time_synch_type, time_standard, time_offset, dependency_count}
 use Rattle.metafile.specs.Chunk.{head_lines, head, header_length, offset_bytes, dependencies, multi_name, is_multi, dependency_length_for, header_length_for, header_bytes_for, specific, lengths_fault, dependency_fields, specific_place, header_bytes, chunk_header_fault}
 use Rattle.table.specs.Codes.{line_no, lines_from}
-use Rattle.lines.specs.declared.reader.Taken.{Taken}
+use Rattle.std.specs.declared.result.Result.{Result}
+use Rattle.std.specs.declared.result.Result.TheVariants.{Ok, Err}
+use Rattle.metafile.specs.declared.refusal.Refusal.{Refusal}
+use Rattle.metafile.specs.Refusals.{number_of}
 use Rattle.lines.specs.Parts.{field_no, Takes}
 use Rattle.lines.proofs.Runs.{takes-stop, takes-fits, takes-go, takes-both, takes_first}
 use Rattle.laws.proofs.First.{test, and_both, is_zero-zero, ⊳-left, ⊳-right, require-true}
-use Rattle.laws.proofs.Loops.{part-drop}
 use Rattle.laws.proofs.Table.{field-own, run-enough, run-split, run_at}
 use Rattle.laws.proofs.Distances.{lines, size-head}
 use Rattle.chunk_laws.proofs.Chunk.{size-free, size-behind-count}
 use Rattle.laws.proofs.Stages.{fits}
-use Rattle.chunk.specs.declared.parts.Head.{Head}
-use Rattle.chunk.specs.Layout.{Numbers, headless, HeadOf}
+use Rattle.chunk.specs.Layout.{Numbers, HeadOf}
 use Rattle.chunk.proofs.Stages.{free-short, free-long}
 
 -- ---- "If, and only if, SubFormat_ID is ADS\SYS\MultiChunk"
 
-same-append : (a b n k : List ℕ) → length a ≡ length n → same (a ++ b) (n ++ k) ≡ (same a n && same b k)
-unfolding same
-same-append [] b [] k e = refl
-same-append [] b (y ∷ n) k e = absurd (omega arith)
-same-append (x ∷ a) b [] k e = absurd (omega arith)
-same-append (x ∷ a) b (y ∷ n) k e =
-    rw (same-append a b n k (omega arith)) (test (eqb x y) (λ q. rw q) (λ q. rw q))
-
-name-split : (v : List ℕ) → length v ≡ 256 → (same (take 18 v) (bytes "ADS\\SYS\\MultiChunk") && same (drop 18 v) (replicate 238 32)) ≡ same v multi_name
-unfolding multi_name padded
-name-split v h =
-    sym (same-append (take 18 v) (drop 18 v) (bytes "ADS\\SYS\\MultiChunk") (replicate 238 32) (length-take-le 18 v (omega arith)))
-    ∙ ap (λ (u : List ℕ). same u multi_name) (take-append-drop 18 v)
-
-module _ (v : List ℕ) where
-  pub multi-name : (b : Bool) → length v ≡ 256 → true ≡ same (take 18 v) (bytes "ADS\\SYS\\MultiChunk")
-      → b ≡ same (take (length v - 18) (drop 18 v)) (replicate 238 32) → b ≡ same v multi_name
-  multi-name b h ea eb = rw part-drop at eb ∙ rw (← ea) at (name-split v h)
-
-  pub multi-name-not : length v ≡ 256 → false ≡ same (take 18 v) (bytes "ADS\\SYS\\MultiChunk") → false ≡ same v multi_name
-  multi-name-not h ea = rw (← ea) at (name-split v h)
+pub multi-name : (v : List ℕ) (b : Bool) → length v ≡ 256 → b ≡ same v (padded (length v) (bytes "ADS\\SYS\\MultiChunk")) → b ≡ same v multi_name
+unfolding multi_name
+multi-name v b h e = rw h at e
 
 -- ---- the lines up to the dependency count
 
@@ -151,50 +133,54 @@ header-bytes-is s e =
 
 -- ---- the dependencies
 
-dependency-step : (left : ℕ) → 0 < left → dependency_fields left ≡ lines_of (lines_from 9 2) ++ dependency_fields (left - 1)
+dependency-step : (n i : ℕ) → i < n → dependency_fields (n - i) ≡ lines_of (lines_from 9 2) ++ dependency_fields (n - (i + 1))
 unfolding dependency_fields lines lines_from table
-dependency-step zero h = absurd (omega arith)
-dependency-step (suc k) h =
-    let e : suc k - 1 ≡ k = omega arith in
+dependency-step n i h =
+    let e : n - i ≡ suc (n - (i + 1)) = omega arith in
     rw e
 
 -- the LF after the dependency count, which the field reader took
-module _ (s : List ℕ) (n : ℕ) (end : Taken) (e : Takes (field_no 8 2 ∷ []) 567 s end) where
-  pub dependencies-lf : (end.fault ≡ 0 → ⊥) → end.fault ≡ run (lf ∷ dependency_fields n) (drop 567 s)
+module _ {s : List ℕ} (n : ℕ) where
+  pub dependencies-lf : {x : Refusal} → Takes (field_no 8 2 ∷ []) 567 s (Err x) → number_of x ≡ run (lf ∷ dependency_fields n) (drop 567 s)
   unfolding field_no lines
-  dependencies-lf k = takes-stop (field_no 8 2 ∷ []) (dependency_fields n) s 567 end e k
+  dependencies-lf {x = x} e = takes-stop (field_no 8 2 ∷ []) (dependency_fields n) s 567 x e
 
-  pub dependencies-begun : end.fault ≡ 0 → run (lf ∷ dependency_fields n) (drop 567 s) ≡ run (dependency_fields n) (drop end.at s)
-  unfolding field_no lines
-  dependencies-begun z = sym (takes-go (field_no 8 2 ∷ []) (dependency_fields n) s 567 end e z)
+  module _ {p : ℕ} (e : Takes (field_no 8 2 ∷ []) 567 s (Ok p)) where
+    pub dependencies-begun : run (lf ∷ dependency_fields n) (drop 567 s) ≡ run (dependency_fields n) (drop p s)
+    unfolding field_no lines
+    dependencies-begun = sym (takes-go (field_no 8 2 ∷ []) (dependency_fields n) s 567 p e)
 
-  pub dependencies-first : end.fault ≡ 0 → 567 ≤ length s → end.at ≤ length s
-  dependencies-first z h = takes-fits (field_no 8 2 ∷ []) [] s 567 end e h z
+    pub dependencies-first : 567 ≤ length s → p ≤ length s
+    dependencies-first h = takes-fits (field_no 8 2 ∷ []) [] s 567 p e h
 
 -- a dependency: its two lines
 dependency-is : lines_of (lines_from 9 2) ≡ lines_of (line_no 9 ∷ []) ++ lines_of (line_no 10 ∷ [])
 unfolding lines lines_from line_no table
 dependency-is = refl
 
-module _ (s : List ℕ) (at : ℕ) (serial : Taken) (e : Takes (lines_of (line_no 9 ∷ [])) at s serial) where
-  pub serial-stop : (serial.fault ≡ 0 → ⊥) → Takes (lines_of (lines_from 9 2)) at s (record { fault = serial.fault; at = at + 344 })
-  unfolding lines lines_from line_no table
-  serial-stop k = takes_first (lines_of (line_no 9 ∷ [])) (lines_of (line_no 10 ∷ [])) s at serial e _ k refl refl
+module _ {s : List ℕ} {at : ℕ} where
+  pub serial-stop : {x : Refusal} → Takes (lines_of (line_no 9 ∷ [])) at s (Err x) → Takes (lines_of (lines_from 9 2)) at s (Err x)
+  serial-stop {x = x} e = rw dependency-is (takes_first (lines_of (line_no 9 ∷ [])) (lines_of (line_no 10 ∷ [])) s at x e)
 
-  pub serial-go : (name : Taken) → serial.fault ≡ 0 → Takes (lines_of (line_no 10 ∷ [])) serial.at s name → Takes (lines_of (lines_from 9 2)) at s name
-  serial-go name z f = rw dependency-is (takes-both (lines_of (line_no 9 ∷ [])) (lines_of (line_no 10 ∷ [])) s at serial e name z f)
+  pub serial-go : {p : ℕ} → Takes (lines_of (line_no 9 ∷ [])) at s (Ok p) → {q : Result ℕ Refusal} → Takes (lines_of (line_no 10 ∷ [])) p s q → Takes (lines_of (lines_from 9 2)) at s q
+  serial-go {p = p} e {q = q} f = rw dependency-is (takes-both (lines_of (line_no 9 ∷ [])) (lines_of (line_no 10 ∷ [])) s at p e q f)
 
-module _ (s : List ℕ) (all at left : ℕ) (parent : Taken) (e : Takes (lines_of (lines_from 9 2)) at s parent) where
-  pub dependencies-fit : at ≤ length s → parent.fault ≡ 0 → parent.at ≤ length s
-  dependencies-fit = takes-fits (lines_of (lines_from 9 2)) [] s at parent e
+-- a dependency at a place, i of n passed
+module _ {s : List ℕ} {all at n i : ℕ} (h : i < n) (total : all ≡ run (dependency_fields (n - i)) (drop at s)) where
+  pub dependencies-stop : {x : Refusal} → Takes (lines_of (lines_from 9 2)) at s (Err x) → number_of x ≡ all
+  dependencies-stop {x = x} e =
+      takes-stop (lines_of (lines_from 9 2)) (dependency_fields (n - (i + 1))) s at x e
+      ∙ sym (total ∙ ap (λ fs. run fs (drop at s)) (dependency-step n i h))
 
-  module _ (h : 0 < left) (total : all ≡ run (dependency_fields left) (drop at s)) where
-    pub dependencies-stop : (parent.fault ≡ 0 → ⊥) → parent.fault ≡ all
-    dependencies-stop k = takes-stop (lines_of (lines_from 9 2)) (dependency_fields (left - 1)) s at parent e k ∙ sym (total ∙ ap (λ fs. run fs (drop at s)) (dependency-step left h))
+  module _ {p : ℕ} (e : Takes (lines_of (lines_from 9 2)) at s (Ok p)) where
+    pub dependencies-fit : at ≤ length s → p ≤ length s
+    dependencies-fit k = takes-fits (lines_of (lines_from 9 2)) [] s at p e k
 
-    pub dependencies-next : parent.fault ≡ 0 → all ≡ run (dependency_fields (left - 1)) (drop parent.at s)
-    dependencies-next z =
-        total ∙ ap (λ fs. run fs (drop at s)) (dependency-step left h) ∙ sym (takes-go (lines_of (lines_from 9 2)) (dependency_fields (left - 1)) s at parent e z)
+    pub dependencies-next : all ≡ run (dependency_fields (n - (i + 1))) (drop p s)
+    dependencies-next =
+        total
+        ∙ ap (λ fs. run fs (drop at s)) (dependency-step n i h)
+        ∙ sym (takes-go (lines_of (lines_from 9 2)) (dependency_fields (n - (i + 1))) s at p e)
 
 pub dependencies-end : (s : List ℕ) (all at left : ℕ) → left ≡ 0 → all ≡ run (dependency_fields left) (drop at s) → 0 ≡ all
 unfolding dependency_fields run
@@ -236,8 +222,5 @@ header-whole s e =
     let f = fits (value (free (specific s)) ∷ []) (specific s) (specific_place s) s (size-free (specific s)) (omega arith) (⊳-right _ _ e3) in
     record { in_head = ⊳-left _ _ e; in-lengths = ⊳-left _ _ e2; long = l; inside = omega arith }
 
-pub headless-of : (h : Head) (s : List ℕ) (n : ℕ) → h ≡ headless n → n ≡ chunk_header_fault s → (n ≡ 0 → ⊥) → HeadOf h s
-unfolding headless
-headless-of h s n e f x =
-    let is : h.number ≡ n = ap (λ (k : Head). k.number) e in
-    record { fault = is ∙ f; bytes-are = λ z. absurd (x (sym is ∙ z)); count-is = λ z. absurd (x (sym is ∙ z)) }
+pub head-refused : {s : List ℕ} (x : Refusal) → number_of x ≡ chunk_header_fault s → HeadOf (Err x) s
+head-refused x e = record { fault = e; bytes-are = tt; count-is = tt }

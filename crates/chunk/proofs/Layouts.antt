@@ -24,9 +24,8 @@ use Rattle.laws.proofs.Loops.{part-drop}
 use Rattle.chunk_laws.proofs.Contents.{contents-least, contents-enough}
 use Rattle.chunk_laws.proofs.Chunk.{whole, fits_head, fits-header, fits}
 use Rattle.chunk.specs.declared.parts.Layout.{Layout}
-use Rattle.multi.specs.declared.Part.{Part}
 use Rattle.chunk.specs.Layout.{faulty, parts_of, layout_of, WholeLayout, contents_part}
-use Rattle.multi.specs.Part.{part_of}
+use Rattle.multi.specs.Part.{Part, part_of}
 use Rattle.lines.specs.Words.{word_no}
 use Rattle.laws.proofs.Stages.{stop, go}
 use Rattle.chunk.proofs.Stages.{part-number, part_bytes}

@@ -23,9 +23,8 @@ use Rattle.laws.proofs.Loops.{part-drop}
 use Rattle.laws.proofs.Table.{run-enough, run-split}
 use Rattle.laws.proofs.Distances.{lines}
 use Rattle.chunk_laws.proofs.Contents.{size-opened}
-use Rattle.multi.specs.declared.Part.{Part}
 use Rattle.chunk.specs.Layout.{length_line_fault, plain_part, contents_part}
-use Rattle.multi.specs.Part.{multi_part}
+use Rattle.multi.specs.Part.{Part, multi_part}
 use Rattle.laws.proofs.Stages.{stop, go, fits}
 use Rattle.chunk.proofs.Stages.{free-short, free-long, part-fault, part-whole, part-number, part_bytes}
 

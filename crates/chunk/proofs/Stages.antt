@@ -1,6 +1,6 @@
 -- A run of free bytes, and answers that hold a fault or a number of bytes.
 --     free-short free-long   a run of free bytes that ends behind the file's end, or inside
---     part-..                the two answers on contents, and what they say
+--     part-..                the two answers on contents, and what they say; bytes-or: the bytes, or 0
 -- Assumes nothing.
 use Prim.Native.Nat.{ℕ, zero, suc, ◌+◌, ◌≤◌, ◌<◌}
 use mathlib.Core.Path.{◌≡◌, refl, sym, ap, ◌∙◌}
@@ -11,8 +11,11 @@ use Rattle.metafile.specs.Bytes.{choose}
 use Rattle.metafile.specs.Lines.{free, value, run}
 use Rattle.laws.proofs.First.{choose-go, choose-stop}
 use Rattle.laws.proofs.Stages.{run-one, free-short as field-free-short, free-long as field-free-long}
-use Rattle.multi.specs.declared.Part.{Part}
-use Rattle.multi.specs.Part.{part_of}
+use Rattle.std.specs.declared.result.Result.{Result}
+use Rattle.std.specs.declared.result.Result.TheVariants.{Ok, Err}
+use Rattle.std.specs.Result.{result_unwrap_or}
+use Rattle.metafile.specs.declared.refusal.Refusal.{Refusal}
+use Rattle.multi.specs.Part.{Part, part_in, part_of}
 
 -- ---- free bytes
 
@@ -42,3 +45,7 @@ pub part_bytes : (f b : ℕ) (p : Part) → p ≡ part_of f b → p.number ≡ 0
 part_bytes f b p e z =
     let none : f ≡ 0 = sym (part-number f b p e) ∙ z in
     ap (λ (q : Part). q.bytes) (e ∙ choose-go f _ _ none)
+
+pub bytes-or : (p : Result ℕ Refusal) → result_unwrap_or p 0 ≡ (part_in p).bytes
+bytes-or (Ok n) = refl
+bytes-or (Err r) = refl

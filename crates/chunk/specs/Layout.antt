@@ -1,14 +1,17 @@
 -- The layout of a chunk: its first fault, or where its parts stand, counted from the chunk's first byte. It renders "A row
 -- holds: .." without serial number, offset, sum and ending, which a reading that only goes on to the next chunk doesn't need.
 -- Beside it stand the answers on the header and on contents: their first fault, or what they say. Assumes nothing.
-use Rattle.std.specs.Prelude.{ℕ, Bool, false, not, ◌&&◌, ◌≡◌, List, [], ◌∷◌, drop}
+use Rattle.std.specs.Prelude.{ℕ, Bool, false, not, ◌&&◌, ◌≡◌, List, [], ◌∷◌, drop, IfOk}
 use Rattle.metafile.specs.Bytes.{◌⊳◌, require, choose, is_zero}
 use Rattle.metafile.specs.Lines.{lf, opened, content_length, run}
 use Rattle.metafile.specs.Chunk.{header_length, dependency_bytes, chunk_header_fault, header_bytes, contents_place, contents_bytes, chunk_end, dependencies, is_multi, chunk_fault, content_count, plain_fault, plain_bytes, contents_fault, contents_long}
 use Rattle.chunk.specs.declared.parts.Layout.{Layout}
 use Rattle.chunk.specs.declared.parts.Head.{Head}
-use Rattle.multi.specs.declared.Part.{Part}
-use Rattle.multi.specs.Part.{part_of}
+use Rattle.std.specs.declared.result.Result.{Result}
+use Rattle.std.specs.declared.result.Result.TheVariants.{Ok, Err}
+use Rattle.metafile.specs.declared.refusal.Refusal.{Refusal}
+use Rattle.metafile.specs.Refusals.{number_of, fault_in}
+use Rattle.multi.specs.Part.{Part, part_of}
 
 -- no parts, but the number of the fault
 unfoldable pub faulty : ℕ → Layout
@@ -39,6 +42,11 @@ parts_of m s =
 unfoldable pub layout_of : Bool → List ℕ → List ℕ → Layout
 layout_of llc m s = choose (chunk_fault llc m s) (parts_of m s) faulty
 
+-- a layout, or that of a refusal
+abbrev pub layout_in : Result Layout Refusal → Layout
+layout_in (Ok l) = l
+layout_in (Err r) = faulty (number_of r)
+
 -- l is the layout of the chunk at the start of s, which is whole under one of the two strategies
 pub record WholeLayout (l : Layout) (m s : List ℕ) : Type 0 where
   pub llc : Bool
@@ -53,20 +61,11 @@ pub record Numbers (s : List ℕ) (n d h : ℕ) : Type 0 where
   pub d-is : d ≡ dependency_bytes s
   pub h-is : h ≡ header_length s
 
--- nothing, but the number of the fault
-unfoldable pub headless : ℕ → Head
-headless n =
-    record {
-      number = n;
-      bytes = 0;
-      dependencies = 0;
-    }
-
 -- h is what the header at the start of s says: its first fault, and where it has none its bytes and its dependency count
-pub record HeadOf (h : Head) (s : List ℕ) : Type 0 where
-  pub fault : h.number ≡ chunk_header_fault s
-  pub bytes-are : h.number ≡ 0 → h.bytes ≡ header_bytes s
-  pub count-is : h.number ≡ 0 → h.dependencies ≡ dependencies s
+pub record HeadOf (h : Result Head Refusal) (s : List ℕ) : Type 0 where
+  pub fault : fault_in h ≡ chunk_header_fault s
+  pub bytes-are : IfOk h (λ k. k.bytes ≡ header_bytes s)
+  pub count-is : IfOk h (λ k. k.dependencies ≡ dependencies s)
 
 -- ---- contents
 

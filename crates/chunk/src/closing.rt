@@ -1,26 +1,22 @@
 // The closing: mark, integrity data, mark; and the sum in it.
 ghost use Rattle.std.specs.Prelude.{◌≡◌, ◌+◌, ◌≤◌, length, drop};
 ghost use Rattle.metafile.specs.Lines.{run};
+ghost use Rattle.metafile.specs.Refusals.{fault_in};
 ghost use Rattle.metafile.specs.Closing.{closing, sum_good};
 
 use crate::counts::count_at;
+use metafile::Refusal;
 use table::places;
 
 // The first fault of the closing at the place `at`.
-pub fn closing_fault(s: &[u8], at: usize, mark: &[u8]) -> u8
+pub fn closing_fault(s: &[u8], at: usize, mark: &[u8]) -> Result<(), Refusal>
     requires { at ≤ length s.now }
-    ensures { result ≡ run (closing mark.now) (drop at s.now) }
+    ensures { fault_in result ≡ run (closing mark.now) (drop at s.now) }
 {
-    let first = lines::read_fixed(s, at, mark);
-    if first.fault != 0 {
-        return first.fault;
-    }
-    let wrong = lines::integrity_fault(s, first.at);
-    if wrong != 0 {
-        return wrong;
-    }
-    let last = lines::read_fixed(s, first.at + places::INTEGRITY_BYTES, mark);
-    last.fault
+    let first = lines::read_fixed(s, at, mark)?;
+    lines::integrity_fault(s, first)?;
+    lines::read_fixed(s, first + places::INTEGRITY_BYTES, mark)?;
+    Ok(())
 }
 
 // Whether the sum in the closing at the place `at` is that of the bytes before its digits.

@@ -2,27 +2,25 @@
 // MultiChunk. Counted data are never searched for the mark.
 ghost use Rattle.std.specs.Prelude.{◌≡◌};
 ghost use Rattle.metafile.specs.Chunk.{data_bytes, contents_fault, contents_from, contents_long};
+ghost use Rattle.metafile.specs.Refusals.{fault_in};
+ghost use Rattle.multi.specs.Part.{part_in};
 ghost use Rattle.chunk.specs.Layout.{length_line_fault, plain_part, contents_part};
 
 use crate::counts::count_at;
 use lines::reader::END;
-use metafile::refusals;
-use multi::Part;
+use metafile::Refusal;
 use table::{numbers, places};
 
 // The content length line. Under LLC a count of 0 is refused, before the LF.
-fn length_line_fault(r: &[u8], llc: bool) -> u8
-    ensures { result ≡ length_line_fault llc r.now }
+fn length_line_fault(r: &[u8], llc: bool) -> Result<(), Refusal>
+    ensures { fault_in result ≡ length_line_fault llc r.now }
 {
-    let line = lines::read_opened(r, 0, numbers::CONTENT_LENGTH);
-    if line.fault != 0 {
-        return line.fault;
-    }
+    let line = lines::read_opened(r, 0, numbers::CONTENT_LENGTH)?;
     if llc & (count_at(r, places::CONTENT_LENGTH, places::LENGTH) == 0) {
-        return refusals::LENGTH;
+        return Err(Refusal::Length);
     }
-    let end = lines::read_field(r, line.at, numbers::CONTENT_LENGTH, END);
-    end.fault
+    lines::read_field(r, line, numbers::CONTENT_LENGTH, END)?;
+    Ok(())
 }
 
 // The bytes of the data: up to the first mark where the count is 0, else one less than the count.
@@ -36,16 +34,10 @@ fn data_bytes(rest: &[u8], mark: &[u8], count: usize) -> usize
 }
 
 // Plain contents: the content length line and the data.
-fn plain_part(r: &[u8], llc: bool, mark: &[u8]) -> Part
-    ensures { result ≡ plain_part llc mark.now r.now }
+fn plain_part(r: &[u8], llc: bool, mark: &[u8]) -> Result<usize, Refusal>
+    ensures { part_in result ≡ plain_part llc mark.now r.now }
 {
-    let fault = length_line_fault(r, llc);
-    if fault != 0 {
-        return Part {
-            number: fault,
-            bytes: 0,
-        };
-    }
+    length_line_fault(r, llc)?;
     let rest = &r[places::CONTENT_LENGTH_BYTES..];
     let bytes = data_bytes(
         rest,
@@ -53,17 +45,14 @@ fn plain_part(r: &[u8], llc: bool, mark: &[u8]) -> Part
         count_at(r, places::CONTENT_LENGTH, places::LENGTH),
     );
     if rest.len() < bytes {
-        return Part {
-            number: refusals::SHORT,
-            bytes: 0,
-        };
+        return Err(Refusal::Short);
     }
-    Part { number: 0, bytes }
+    Ok(bytes)
 }
 
 // Contents of either sort.
-pub fn contents_part(r: &[u8], multichunk: bool, llc: bool, mark: &[u8]) -> Part
-    ensures { result ≡ contents_part multichunk llc mark.now r.now }
+pub fn contents_part(r: &[u8], multichunk: bool, llc: bool, mark: &[u8]) -> Result<usize, Refusal>
+    ensures { part_in result ≡ contents_part multichunk llc mark.now r.now }
 {
     if multichunk {
         return multi::multi_part(r);
@@ -77,7 +66,7 @@ pub fn whole_bytes(r: &[u8], multichunk: bool, llc: bool, mark: &[u8]) -> usize
     ensures { result ≡ contents_long multichunk mark.now r.now }
 {
     if multichunk {
-        return multi::multi_part(r).bytes;
+        return multi::multi_part(r).unwrap_or(0);
     }
     data_bytes(
         &r[places::CONTENT_LENGTH_BYTES..],

@@ -6,14 +6,14 @@ ghost use Rattle.metafile.specs.Lines.{lf, lines_of, run};
 ghost use Rattle.table.specs.Codes.{lines_from};
 ghost use Rattle.lines.specs.Parts.{Takes};
 ghost use Rattle.metafile.specs.Chunk.{head, dependencies, multi_name, is_multi, lengths_fault, dependency_fields, header_bytes};
-ghost use Rattle.chunk.specs.Layout.{Numbers, headless, HeadOf};
+ghost use Rattle.metafile.specs.Refusals.{fault_in};
+ghost use Rattle.chunk.specs.Layout.{Numbers, HeadOf};
 
 use crate::counts::count_at;
 use crate::parts::Head;
-use lines::Taken;
 use lines::reader::END;
-use metafile::refusals;
-use table::{numbers, places};
+use metafile::Refusal;
+use table::{names, numbers, places};
 
 // ---- what the header says
 
@@ -22,11 +22,7 @@ pub fn is_multi_name(id: &[u8]) -> bool
     requires { length id.now ≡ 256 }
     ensures { result ≡ same id.now multi_name }
 {
-    if search::same_bytes(&id[..18], b"ADS\\SYS\\MultiChunk") {
-        let spaces = [b' '; 238];
-        return search::same_bytes(&id[18..], &spaces);
-    }
-    false
+    names::is_padded(id, b"ADS\\SYS\\MultiChunk")
 }
 
 pub fn is_multi(s: &[u8]) -> bool
@@ -56,117 +52,78 @@ pub fn header_bytes(s: &[u8]) -> usize
 // ---- the stages
 
 // The lines up to the digits of the dependency count.
-fn head_fault(s: &[u8]) -> u8
-    ensures { result ≡ run head s.now }
+fn head_fault(s: &[u8]) -> Result<(), Refusal>
+    ensures { fault_in result ≡ run head s.now }
 {
-    let fault = lines::head_lines_fault(s);
-    if fault != 0 {
-        return fault;
-    }
+    lines::head_lines_fault(s)?;
     lines::dependency_count_fault(s)
 }
 
 // The dependency length, then the header length; a MultiChunk has no specific data. The numbers are those of the header: the
 // dependency count and the two lengths.
-fn numbers_fault(s: &[u8], n: usize, announced: usize, header: usize) -> u8
+fn numbers_fault(s: &[u8], n: usize, announced: usize, header: usize) -> Result<(), Refusal>
     requires lines { run head s.now ≡ 0 }
     requires numbers { Numbers s.now n announced header }
-    ensures { result ≡ lengths_fault s.now }
+    ensures { fault_in result ≡ lengths_fault s.now }
 {
     if announced != places::LEAST_DEPENDENCY_LENGTH + places::DEPENDENCY_BYTES * n {
-        return refusals::LENGTH;
+        return Err(Refusal::Length);
     }
     let least = places::LEAST_HEADER_LENGTH + places::DEPENDENCY_BYTES * n;
     if header < least {
-        return refusals::LENGTH;
+        return Err(Refusal::Length);
     }
     if header == least {
-        return 0;
+        return Ok(());
     }
     if is_multi(s) {
-        return refusals::LENGTH;
+        return Err(Refusal::Length);
     }
-    0
+    Ok(())
 }
 
 // A dependency: its serial number and its sub-format.
-fn dependency(s: &[u8], at: usize) -> Taken
+fn dependency(s: &[u8], at: usize) -> Result<usize, Refusal>
     requires { at ≤ length s.now }
     ensures { Takes (lines_of (lines_from 9 2)) at s.now result }
 {
-    let serial = lines::read_line(s, at, numbers::DEPENDENCY_SERIAL);
-    if serial.fault != 0 {
-        return Taken {
-            fault: serial.fault,
-            at: at + places::DEPENDENCY_BYTES,
-        };
-    }
-    lines::read_line(s, serial.at, numbers::DEPENDENCY_SUB_FORMAT)
+    let serial = lines::read_line(s, at, numbers::DEPENDENCY_SERIAL)?;
+    lines::read_line(s, serial, numbers::DEPENDENCY_SUB_FORMAT)
 }
 
 // The LF after the dependency count, and n dependencies, two lines each.
-fn dependencies_fault(s: &[u8], n: usize) -> u8
+fn dependencies_fault(s: &[u8], n: usize) -> Result<(), Refusal>
     requires { 567 ≤ length s.now }
-    ensures { result ≡ run (lf ∷ dependency_fields n) (drop 567 s.now) }
+    ensures { fault_in result ≡ run (lf ∷ dependency_fields n) (drop 567 s.now) }
 {
-    let end = lines::read_field(
+    let mut at = lines::read_field(
         s,
         places::DEPENDENCY_COUNT_END,
         numbers::DEPENDENCY_COUNT,
         END,
-    );
-    if end.fault != 0 {
-        return end.fault;
+    )?;
+    for _ in 0..n {
+        at = dependency(s, at)?;
     }
-    let mut at = end.at;
-    let mut left = n;
-    while 0 < left {
-        let parent = dependency(s, at);
-        if parent.fault != 0 {
-            return parent.fault;
-        }
-        at = parent.at;
-        left -= 1;
-    }
-    0
-}
-
-fn no_head(number: u8) -> Head
-    ensures { result ≡ headless number }
-{
-    Head {
-        number,
-        bytes: 0,
-        dependencies: 0,
-    }
+    Ok(())
 }
 
 // The first fault of the header, or what it says. Each number is valued once.
-pub fn head(s: &[u8]) -> Head
+pub fn head(s: &[u8]) -> Result<Head, Refusal>
     ensures { HeadOf result s.now }
 {
-    let fault = head_fault(s);
-    if fault != 0 {
-        return no_head(fault);
-    }
+    head_fault(s)?;
     let n = dependencies(s);
     let announced = count_at(s, places::DEPENDENCY_LENGTH, places::LENGTH);
     let header = count_at(s, places::HEADER_LENGTH, places::LENGTH);
-    let wrong = numbers_fault(s, n, announced, header);
-    if wrong != 0 {
-        return no_head(wrong);
-    }
-    let broken = dependencies_fault(s, n);
-    if broken != 0 {
-        return no_head(broken);
-    }
+    numbers_fault(s, n, announced, header)?;
+    dependencies_fault(s, n)?;
     let bytes = header + places::HEADER_LENGTH_END;
     if s.len() < bytes {
-        return no_head(refusals::SHORT);
+        return Err(Refusal::Short);
     }
-    Head {
-        number: 0,
+    Ok(Head {
         bytes,
         dependencies: n,
-    }
+    })
 }

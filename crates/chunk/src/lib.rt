@@ -19,63 +19,58 @@ mod rows;
 
 ghost use Rattle.std.specs.Prelude.{◌≡◌};
 ghost use Rattle.metafile.specs.Chunk.{is_multi, header_bytes, chunk_fault};
-ghost use Rattle.chunk.specs.Layout.{faulty, parts_of, layout_of};
+ghost use Rattle.chunk.specs.Layout.{layout_in, parts_of, layout_of};
 
 pub use closing::{closing_fault, sum_good};
 pub use header::{dependencies, is_multi_name};
+use metafile::Refusal;
 pub use parts::Layout;
 pub use rows::{chunk_serial, row};
 use table::places;
 
-fn refused(number: u8) -> Layout
-    ensures { result ≡ faulty number }
+// The parts of the chunk that begins at s, or its first fault.
+fn read_parts(s: &[u8], llc: bool, mark: &[u8]) -> Result<Layout, Refusal>
+    ensures { layout_in result ≡ layout_of llc mark.now s.now }
 {
-    Layout {
-        number,
-        header: 0,
-        contents: 0,
-        bytes: 0,
-        end: 0,
-        dependencies: 0,
-        multichunk: false,
-    }
+    let head = header::head(s)?;
+    let header = head.bytes;
+    let multichunk = header::is_multi(s);
+    let bytes = contents::contents_part(&s[header..], multichunk, llc, mark)?;
+    let contents = header + contents::contents_from(multichunk);
+    let at = contents + bytes;
+    closing::closing_fault(s, at, mark)?;
+    let end = at + mark.len() + places::INTEGRITY_BYTES + mark.len();
+    Ok(Layout {
+        number: 0,
+        header,
+        contents,
+        bytes,
+        end,
+        dependencies: head.dependencies,
+        multichunk,
+    })
 }
 
 // The layout of the chunk that begins at s.
 pub fn layout(s: &[u8], llc: bool, mark: &[u8]) -> Layout
     ensures { result ≡ layout_of llc mark.now s.now }
 {
-    let head = header::head(s);
-    let fault = head.number;
-    if fault != 0 {
-        return refused(fault);
-    }
-    let header = head.bytes;
-    let multichunk = header::is_multi(s);
-    let part = contents::contents_part(&s[header..], multichunk, llc, mark);
-    let number = part.number;
-    if number != 0 {
-        return refused(number);
-    }
-    let contents = header + contents::contents_from(multichunk);
-    let at = contents + part.bytes;
-    let broken = closing::closing_fault(s, at, mark);
-    if broken != 0 {
-        return refused(broken);
-    }
-    let end = at + mark.len() + places::INTEGRITY_BYTES + mark.len();
-    Layout {
-        number: 0,
-        header,
-        contents,
-        bytes: part.bytes,
-        end,
-        dependencies: head.dependencies,
-        multichunk,
+    match read_parts(s, llc, mark) {
+        Ok(l) => l,
+        Err(refusal) => Layout {
+            number: refusal.number(),
+            header: 0,
+            contents: 0,
+            bytes: 0,
+            end: 0,
+            dependencies: 0,
+            multichunk: false,
+        },
     }
 }
 
 // Where the parts of a chunk known to be whole stand, by its header's bytes and its sort.
+// clause: llc and mark as fields of one struct make parts_of slower, 1.03 times over plain chunks
 fn known_parts(s: &[u8], header: usize, multichunk: bool, llc: bool, mark: &[u8]) -> Layout
     requires s_value { chunk_fault llc mark.now s.now ≡ 0 }
     requires header_value { (header ≡ header_bytes s.now) × (multichunk ≡ is_multi s.now) }

@@ -20,8 +20,6 @@ pub struct Layout {
 
 #[derive(Clone, Copy)]
 pub struct Head {
-    // the first fault; where it isn't 0, all else is 0
-    pub number: u8,
     // header bytes
     pub bytes: usize,
     // dependency count

@@ -35,6 +35,7 @@ fn offset(s: &[u8]) -> i64
 }
 
 // How the end was found; where the content length is 0, by the mark.
+// number: an ending is the number that Row, which C reads, has for it
 fn ending(s: &[u8], mark: &[u8], l: Layout) -> u8
     requires { WholeLayout l mark.now s.now }
     ensures { result ≡ chunk_ending s.now }

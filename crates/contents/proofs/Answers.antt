@@ -9,33 +9,41 @@ use mathlib.Core.List.{List, []}
 use native.Mathlib.Omega.{arith}
 use lib.ListN.{length, take, drop}
 use Rattle.metafile.specs.declared.Row.{Row}
+use Rattle.metafile.specs.declared.refusal.Refusal.{Refusal}
+use Rattle.metafile.specs.Refusals.{number_of}
 use Rattle.metafile.specs.Bytes.{choose}
 use Rattle.metafile.specs.Reading.{rows_of}
 use Rattle.metafile.specs.Answers.{first_refusal}
 use Rattle.metafile.specs.Append.{row_no}
 use Rattle.metafile.specs.Calls.{row_contents, contents_tests, contents}
-use Rattle.laws.proofs.First.{cases, choose-go, choose-stop}
+use Rattle.laws.proofs.First.{untrue, cases, choose-go, choose-stop}
+use Rattle.laws.proofs.Accepted.{tests-end}
 use Rattle.walk.specs.declared.cursor.Cursor.{Cursor}
-use Rattle.walk.specs.Cursor.{named_of}
+use Rattle.walk.specs.Cursor.{cursor_none, named_of}
 use Rattle.chunk_laws.proofs.Places.{row_inside}
-use Rattle.walk.proofs.Named.{named, number_is, none_passed}
+use Rattle.walk.proofs.Named.{Named, tests-on, none_passed, named, refused_by}
 use Rattle.contents.specs.declared.Part.{Part}
 use Rattle.contents.specs.Outcome.{contents_outcome, part_named, part_alone, part_of, part_outcome}
 
 -- ---- the part
 
-module _ (file : List ℕ) (k : ℕ) (c : Cursor) (e : c ≡ named_of file k) where
-  pub part-refused : (c.number ≡ 0 → ⊥) → part_alone c.number ≡ part_of file k
-  unfolding part_of
-  part-refused z =
-      let number = number_is file k c e in
-      sym (choose-stop (first_refusal (contents_tests file k)) _ _ (λ q. z (number ∙ q)) ∙ ap part_alone (sym number))
+-- the number of what is refused isn't 0
+number-some : (file : List ℕ) (k : ℕ) (r : Refusal) → cursor_none (number_of r) ≡ named_of file k → number_of r ≡ 0 → ⊥
+unfolding cursor_none
+number-some file k r e z = untrue (named file k (cursor_none (number_of r)) e z).goes
 
-  pub part-named : c.number ≡ 0 → record { place = c.at + c.layout.contents; bytes = c.layout.bytes; number = 0 } ≡ part_of file k
-  unfolding part_of part_named
-  part-named z =
-      let w = named file k c e z in
-      rw (w.contents-is, w.bytes-is) (sym (choose-go (first_refusal (contents_tests file k)) _ _ (sym (number_is file k c e) ∙ z)))
+module _ (file : List ℕ) (k : ℕ) where
+  pub part-refused : (r : Refusal) → cursor_none (number_of r) ≡ named_of file k → part_alone (number_of r) ≡ part_of file k
+  unfolding part_of contents_tests
+  part-refused r e =
+      let number = refused_by file k r e [] in
+      sym (choose-stop (first_refusal (contents_tests file k)) _ _ (λ q. number-some file k r e (sym number ∙ q)) ∙ ap part_alone number)
+
+  pub part-named : (c : Cursor) → Named file k c → record { place = c.at + c.layout.contents; bytes = c.layout.bytes; number = 0 } ≡ part_of file k
+  unfolding part_of part_named contents_tests
+  part-named c w =
+      let none : first_refusal (contents_tests file k) ≡ 0 = tests-on _ _ k [] w.file-small w.in_rows ∙ tests-end in
+      rw (w.contents-is, w.bytes-is) (sym (choose-go (first_refusal (contents_tests file k)) _ _ none))
 
 -- ---- what contents hands back
 
@@ -55,6 +63,10 @@ module _ (file : List ℕ) (k : ℕ) (p : Part) (e : p ≡ part_of file k) where
   handed =
       let bytes : p.place + p.bytes - p.place ≡ p.bytes = omega arith in
       rw bytes part-outcome
+
+  pub handed-none : p.place ≡ 0 → p.bytes ≡ 0 → contents_outcome [] p.number ≡ contents file k
+  unfolding part_outcome
+  handed-none a b = rw (a, b) at part-outcome
 
   pub part-inside : p.place + p.bytes ≤ length file
   unfolding part_of part_named

@@ -6,7 +6,12 @@ use Rattle.metafile.specs.Reading.{rows_of}
 use Rattle.metafile.specs.Answers.{first_refusal}
 use Rattle.metafile.specs.Append.{row_no}
 use Rattle.metafile.specs.Calls.{ContentsOutcome, contents_tests}
+use Rattle.std.specs.declared.result.Result.{Result}
+use Rattle.std.specs.declared.result.Result.TheVariants.{Ok, Err}
+use Rattle.metafile.specs.declared.refusal.Refusal.{Refusal}
+use Rattle.metafile.specs.Refusals.{number_of}
 use Rattle.contents.specs.declared.Part.{Part}
+use Rattle.contents.specs.declared.Place.{Place}
 
 abbrev pub contents_outcome : List ℕ → ℕ → ContentsOutcome
 contents_outcome part number = record { contents = part; number = number }
@@ -17,6 +22,11 @@ part_named r = record { place = r.contents; bytes = r.bytes; number = 0 }
 
 abbrev pub part_alone : ℕ → Part
 part_alone n = record { place = 0; bytes = 0; number = n }
+
+-- the part found, or refused
+abbrev pub part_in : Result Place Refusal → Part
+part_in (Ok p) = record { place = p.place; bytes = p.bytes; number = 0 }
+part_in (Err r) = part_alone (number_of r)
 
 unfoldable pub part_of : List ℕ → ℕ → Part
 part_of file k = choose (first_refusal (contents_tests file k)) (part_named (row_no (rows_of file) k)) part_alone

@@ -7,7 +7,6 @@ use std::io::Write;
 fn main(rt: HostRuntime) -> io::Result<()> {
     let mut input = [0u8; 65537];
     let got = listing_io::read_full(&mut rt.reader(), &mut input)?;
-    let mut number = 0u8;
-    let part = contents::contents(&input[..got], 0, &mut number);
+    let part = contents::contents(&input[..got], 0).unwrap_or(&[]);
     io::writer(&rt).write_all(part)
 }

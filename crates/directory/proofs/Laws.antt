@@ -1,33 +1,35 @@
 -- What a directory holds (specs/Directory), for its functions and for those who fill one and search in it.
 --     slot-from slot-to                 where the slot of a hash can be
---     free-inside free-is               the free slot, of the parts that are handed on
+--     free-is free-none                 the free slot, of the parts that are handed on
 --     none-held                         with no entry, nothing is asked of the slots
---     cleared-next cleared-all          the loop that empties the slots
+--     cleared                           zeros in the place of the slots
 --     full no_slot                      a directory that takes no entry more
 --     added-here                        one entry more; what was reached before is reached after it
 --     same-part                         the 35 bytes at a place are those of its serial number
---     entry-far entry-near              whether what stands in a slot is an entry with the serial number
 --     ahead-first ahead-empty ahead-found ahead-next ahead-end   the search from slot to slot
 -- Writing keys and starts leaves the slots as they are. An entry is written only into an empty slot, or what stands there,
 -- so the entries before it are reached as they were.
 -- Assumes nothing.
-use Prim.Native.Nat.{ℕ, zero, suc, ◌+◌, ◌-◌, ◌≤◌, ◌<◌}
+use Prim.Native.Nat.{ℕ, ◌+◌, ◌-◌, ◌≤◌, ◌<◌}
 use mathlib.Core.Bool.{Bool, true, false, ◌||◌}
 use mathlib.Core.Path.{◌≡◌, refl, sym, ap, ◌∙◌}
 use mathlib.Core.List.{List, [], ◌∷◌}
 use native.Mathlib.Omega.{arith}
 use native.Mathlib.Numerals.{add-one}
 use lib.Dec.{eqb, leb, ltb}
-use lib.ListN.{length, take, drop, get_or, set, length-drop, length-set, drop_of_length-le}
+use lib.ListN.{length, take, drop, get_or, set, replicate, length-drop, length-set, drop_of_length-le}
 use lib.Seq.{take_all, take-take, drop-cons, drop-set-lt, drop-set-add, get_or-drop, get_or-set_same, get_or-set_other, set-get_or}
-use borrow.Author.Tests.{eqb-true, eqb-false, ltb-true, ltb-false, leb-true, le-leb, lt-leb}
+use borrow.Rule.Slice.PartMut.{put_mid}
+use Rattle.std.proofs.Common.{rules}
+use Rattle.std.proofs.lemmas.List.{places, get_or-replicate, get_or_past}
+use borrow.Author.Tests.{eqb-true, ltb-true, ltb-false, leb-true, le-leb}
 use Rattle.metafile.specs.Bytes.{part, is_zero, same}
 use Rattle.metafile.specs.Fields.{same_serial}
 use Rattle.laws.proofs.First.{test, untrue, or-true, and_both, is_zero-zero, is_zero-is, is_zero-not}
 use Rattle.index.specs.Index.{hash_of, first_of, size, reached}
 use Rattle.index.proofs.Laws.{same-hash, first-has, first-entered, reached-set, sized}
 use Rattle.directory.specs.Directory.{key_no, start_no, serial_no, slot_for, Directory, Empty, Added, Sought}
-use Rattle.directory.specs.Inner.{free_for, is_entry, Ahead}
+use Rattle.directory.specs.Inner.{free_for, is_entry}
 
 -- ---- slots
 
@@ -52,13 +54,23 @@ free-inside e h d l =
     omega (arith, first-inside e (drop (slot_for h) d), length-drop (slot_for h) d, slot-to h, l, sized)
 
 -- s is the slot of the hash, f the first entry from there on, in the part of the array that is handed on
-pub free-is : (e h : ℕ) (d : List ℕ) (s f : ℕ) → s ≡ slot_for h → f ≡ first_of e (take (length d - s) (drop s d))
-    → s + f ≡ free_for e h d
-unfolding free_for
-free-is e h d s f p q =
-    let rest : take (length d - s) (drop s d) ≡ drop s d =
-    take_all (length d - s) (drop s d) (rw length-drop (omega arith)) in
-    rw (← p, ← (q ∙ ap (first_of e) rest))
+module _ (e h : ℕ) (d : List ℕ) (s f : ℕ) (slot_is : s ≡ slot_for h) where
+  abbrev rest : List ℕ
+  rest = take (length d - s) (drop s d)
+
+  rest-is : rest ≡ drop s d
+  rest-is = take_all (length d - s) (drop s d) (rw length-drop (omega arith))
+
+  pub free-is : (f ≡ first_of e rest) × (f < length rest) → (s + f ≡ free_for e h d) × (s + f < length d)
+  unfolding free_for
+  free-is q = (rw (← slot_is, ← (q.0 ∙ ap (first_of e) rest-is)), omega (arith, q.1, ap length rest-is, length-drop s d))
+
+  pub free-none : length d ≡ size → first_of e rest ≡ length rest → free_for e h d ≡ length d
+  unfolding free_for
+  free-none l q =
+      let r = rest-is in
+      let n : first_of e (drop s d) ≡ length (drop s d) = rw r at q in
+      rw (← slot_is, n, length-drop) (omega (arith, slot-to h, l, sized))
 
 -- ---- an empty directory
 
@@ -66,26 +78,19 @@ pub none-held : (file d : List ℕ) → Empty d → Directory file 0 d
 none-held file d w =
     record { long = w.long; few = omega arith; inside = λ j l. absurd (omega arith); reach = λ j l. absurd (omega arith) }
 
--- the slots before i are empty
-pub cleared-next : (d : List ℕ) (i : ℕ) → i < length d → ((k : ℕ) → 104000 ≤ k → k < i → get_or d k 0 ≡ 0)
-    → (k : ℕ) → 104000 ≤ k → k < i + 1 → get_or (set d i 0) k 0 ≡ 0
-cleared-next d i l h k b q =
-    test (eqb k i)
-    (λ e. rw (eqb-true k i e) (get_or-set_same d i 0 0 l))
-    (λ e. get_or-set_other d i k 0 0 (eqb-false k i e) ∙ h k b (omega (arith, eqb-false k i e)))
+-- zeros from a place on
+zeros-at : (d : List ℕ) (a i : ℕ) → a ≤ length d → a ≤ i
+    → get_or (put_mid a (length d - a) d (replicate (length d - a) 0)) i 0 ≡ 0
+zeros-at d a i l h = grind (arith, places, get_or-replicate, get_or_past)
 
-past_end : (d : List ℕ) (i : ℕ) → length d ≤ i → get_or d i 0 ≡ 0
-past_end [] i h = refl
-past_end (x ∷ d) zero h = absurd (omega arith)
-past_end (x ∷ d) (suc i) h = past_end d i (omega arith)
+zeros-long : (d : List ℕ) (a : ℕ) → a ≤ length d → length (put_mid a (length d - a) d (replicate (length d - a) 0)) ≡ length d
+zeros-long d a l = search (rules, places)
 
-pub cleared-all : (d : List ℕ) (i : ℕ) → length d ≡ size → length d ≤ i
-    → ((k : ℕ) → 104000 ≤ k → k < i → get_or d k 0 ≡ 0) → Empty d
-cleared-all d i l e h =
-    record {
-      long = l;
-      slots = λ k b. test (ltb k i) (λ q. h k b (ltb-true k i q)) (λ q. past_end d k (omega (arith, ltb-false k i q)));
-    }
+pub cleared : (d zeros : List ℕ) → length d ≡ size → zeros ≡ replicate (length d - 104000) 0
+    → Empty (put_mid 104000 (length d - 104000) d zeros)
+unfolding size
+cleared d zeros l e =
+    rw e record { long = zeros-long d 104000 (omega arith) ∙ l; slots = λ i h. zeros-at d 104000 i (omega arith) h }
 
 -- the first slot of an empty directory is free
 empty-free : (e h : ℕ) (d : List ℕ) → Empty d → free_for e h d < length d
@@ -233,19 +238,6 @@ same-part file serial key =
     let n : key + 35 - key ≡ 35 = omega arith in
     rw (n, take-take 35 38 (drop key file) (omega arith))
 
-pub some : (e : ℕ) → (e ≡ 0 → ⊥) → 0 < e
-some zero z = absurd (z refl)
-some (suc e) z = omega arith
-
-module _ (file d serial : List ℕ) (n e : ℕ) where
-  pub entry-far : n < e → false ≡ is_entry file d n serial e
-  unfolding is_entry
-  entry-far l = rw (lt-leb e n l)
-
-  pub entry-near : e ≤ n → same_serial (serial_no file d (e - 1)) serial ≡ is_entry file d n serial e
-  unfolding is_entry
-  entry-near l = rw (le-leb e n l)
-
 -- ---- the search
 
 -- one slot on, at the slot i
@@ -262,16 +254,19 @@ reached-end : (t i : ℕ) (d : List ℕ) → length d ≤ i → reached t (drop 
 unfolding reached
 reached-end t i d l = rw (drop_of_length-le d l)
 
-module _ (file d serial : List ℕ) (n : ℕ) where
-  pub ahead-first : Directory file n d → Ahead file d n serial (slot_for (hash_of serial))
-  ahead-first w =
-      record {
-        within = omega (arith, slot-to (hash_of serial), w.long, sized);
-        reach = λ j l q. rw (same-hash (serial_no file d j) serial q) at (w.reach j l);
-      }
+-- each of n entries that has this serial number is reached in the slots that are left
+pub record Ahead (file d : List ℕ) (n : ℕ) (serial slots : List ℕ) : Type 0 where
+  pub reach : (j : ℕ) → j < n → same_serial (serial_no file d j) serial ≡ true → reached (j + 1) slots ≡ true
 
-  module _ (i : ℕ) (w : Ahead file d n serial i) where
-    sought-none : ((t : ℕ) → reached t (drop i d) ≡ false) → Sought file d n serial 0
+module _ {file d : List ℕ} {n : ℕ} {serial : List ℕ} where
+  pub ahead-first : Directory file n d → (s : ℕ) → s ≡ slot_for (hash_of serial) → Ahead file d n serial (take (length d - s) (drop s d))
+  ahead-first w s e =
+      let slot_is : slot_for (hash_of serial) ≡ s = sym e in
+      rw (rest-is 0 (hash_of serial) d s 0 e)
+      record { reach = λ j l q. rw (same-hash (serial_no file d j) serial q, slot_is) at (w.reach j l) }
+
+  module _ (slots : List ℕ) (i : ℕ) (w : Ahead file d n serial (drop i slots)) where
+    sought-none : ((t : ℕ) → reached t (drop i slots) ≡ false) → Sought file d n serial 0
     sought-none f =
         record {
           few = omega arith;
@@ -279,34 +274,35 @@ module _ (file d serial : List ℕ) (n : ℕ) where
           all = λ j l q. untrue (sym (f (j + 1)) ∙ w.reach j l q);
         }
 
-    pub ahead-end : length d ≤ i → Sought file d n serial 0
-    ahead-end l = sought-none (λ t. reached-end t i d l)
+    pub ahead-end : length slots ≤ i → Sought file d n serial 0
+    ahead-end l = sought-none (λ t. reached-end t i slots l)
 
-    module _ (l : i < length d) where
-      pub ahead-empty : get_or d i 0 ≡ 0 → Sought file d n serial 0
-      ahead-empty z = sought-none (λ t. reached-none t i d l z)
+    module _ (l : i < length slots) where
+      pub ahead-empty : get_or slots i 0 ≡ 0 → Sought file d n serial 0
+      ahead-empty z = sought-none (λ t. reached-none t i slots l z)
 
       -- r says whether the entry in the slot has the serial number
-      module _ (z : get_or d i 0 ≡ 0 → ⊥) (r : Bool) (is : r ≡ is_entry file d n serial (get_or d i 0)) where
-        pub ahead-found : r ≡ true → Sought file d n serial (get_or d i 0)
+      module _ (z : get_or slots i 0 ≡ 0 → ⊥) (r : Bool) (is : r ≡ is_entry file d n serial (get_or slots i 0)) where
+        pub ahead-found : r ≡ true → Sought file d n serial (get_or slots i 0 - 1 + 1)
         unfolding is_entry
         ahead-found q =
-            let e = get_or d i 0 in
+            let e = get_or slots i 0 in
             let h = and_both (leb e n) (same_serial (serial_no file d (e - 1)) serial) (sym is ∙ q) in
-            record { few = leb-true e n h.0; found = λ k. h.1; all = λ j k x. some e z }
+            let back : e - 1 + 1 ≡ e = omega arith in
+            rw back record { few = leb-true e n h.0; found = λ k. h.1; all = λ j k x. omega arith }
 
-        this : (j : ℕ) → j < n → same_serial (serial_no file d j) serial ≡ true → get_or d i 0 ≡ j + 1 → r ≡ true
+        this : (j : ℕ) → j < n → same_serial (serial_no file d j) serial ≡ true → get_or slots i 0 ≡ j + 1 → r ≡ true
+        unfolding is_entry
         this j k q x =
             let one : j + 1 - 1 ≡ j = omega arith in
-            is ∙ rw x (sym (entry-near file d serial n (j + 1) (omega arith)) ∙ rw one q)
+            is ∙ rw (x, one, le-leb (j + 1) n (omega arith)) q
 
-        pub ahead-next : r ≡ false → Ahead file d n serial (i + 1)
+        pub ahead-next : r ≡ false → Ahead file d n serial (drop (i + 1) slots)
         ahead-next f =
             record {
-              within = omega arith;
               reach = λ j k q.
-                  or-true (eqb (get_or d i 0) (j + 1)) (reached (j + 1) (drop (i + 1) d))
-                  (sym (reached-cons (j + 1) i d l z) ∙ w.reach j k q)
-                  (λ x. untrue (sym f ∙ this j k q (eqb-true (get_or d i 0) (j + 1) x)))
+                  or-true (eqb (get_or slots i 0) (j + 1)) (reached (j + 1) (drop (i + 1) slots))
+                  (sym (reached-cons (j + 1) i slots l z) ∙ w.reach j k q)
+                  (λ x. untrue (sym f ∙ this j k q (eqb-true (get_or slots i 0) (j + 1) x)))
                   (λ x. x);
             }

@@ -6,13 +6,14 @@
 // the search among slots, on search for the comparison. None of it is a public call.
 #![tactic(auto)]
 
-ghost use Rattle.std.specs.Prelude.{◌≡◌, ◌+◌, ◌≤◌, ◌<◌, length};
+ghost use Rattle.std.specs.Prelude.{◌≡◌, ◌+◌, ◌≤◌, ◌<◌, length, MatchOption};
 ghost use Rattle.metafile.specs.Bytes.{part};
 ghost use Rattle.metafile.specs.Fields.{same_serial};
 ghost use Rattle.index.specs.Index.{size};
 ghost use Rattle.directory.specs.Directory.{Directory, Empty, Added, Sought, slot_for, start_no};
-ghost use Rattle.directory.specs.Inner.{free_for, is_entry, Ahead};
+ghost use Rattle.directory.specs.Inner.{free_for, is_entry};
 
+// arrays: keys, starts and slots share the one array that a caller has for walk's index: fixed memory.
 const ROOM: usize = 52000;
 
 const SLOTS: usize = 104000;
@@ -20,31 +21,31 @@ const SLOTS: usize = 104000;
 const SERIAL: usize = 38;
 
 // Empties the slots.
+#[tactic(auto, unfolding(index::specs::Index::size))]
 pub fn clear(d: &mut [u32])
     requires { length d.old ≡ size }
     ensures { Empty d.new }
 {
-    let mut i: usize = SLOTS;
-    while i < d.len() {
-        d[i] = 0;
-        i += 1;
-    }
+    d[SLOTS..].fill(0);
 }
 
 // The slot at which the search for a hash begins.
+#[tactic(auto, unfolding(crate::specs::Directory::slot_for))]
 fn slot_for(hash: u64) -> usize
     ensures { (result ≡ slot_for hash) × (result < 196003) }
 {
     SLOTS + index::slot(hash) % 92003
 }
 
-// The first slot, from that of a hash on, that is empty or has e; the end where there is none.
-fn free(d: &[u32], hash: u64, e: u32) -> usize
+// The first slot, from that of a hash on, that is empty or has e.
+#[tactic(auto, unfolding(index::specs::Index::size))]
+fn free(d: &[u32], hash: u64, e: u32) -> Option<usize>
     requires { length d.now ≡ size }
-    ensures { result ≡ free_for e hash d.now }
+    ensures { MatchOption result (free_for e hash d.now ≡ length d.now) (λ i. (i ≡ free_for e hash d.now) × (i < length d.now)) }
 {
     let from = slot_for(hash);
-    from + index::first(&d[from..], e)
+    let steps = index::first(&d[from..], e)?;
+    Some(from + steps)
 }
 
 // One entry more, as number n: the place of its serial number, and its start. Answers how many there are then.
@@ -58,11 +59,9 @@ pub fn add(file: &[u8], d: &mut [u32], n: usize, key: usize, start: usize) -> us
     if n == ROOM {
         return n;
     }
-    let end = key + SERIAL;
-    let slot = free(d, index::hash(&file[key..end]), (n + 1) as u32);
-    if slot == d.len() {
+    let Some(slot) = free(d, index::hash(&file[key..key + SERIAL]), (n + 1) as u32) else {
         return n;
-    }
+    };
     d[n] = key as u32;
     d[ROOM + n] = start as u32;
     d[slot] = (n + 1) as u32;
@@ -70,6 +69,7 @@ pub fn add(file: &[u8], d: &mut [u32], n: usize, key: usize, start: usize) -> us
 }
 
 // The start of entry j.
+#[tactic(auto, unfolding(index::specs::Index::size))]
 pub fn start(d: &[u32], j: usize) -> usize
     requires d_len { length d.now ≡ size }
     requires j_bound { j < 52000 }
@@ -84,50 +84,36 @@ fn same_at(file: &[u8], key: usize, serial: &[u8]) -> bool
     requires in_bounds { 38 ≤ length serial.now }
     ensures { result ≡ same_serial (part key 38 file.now) serial.now }
 {
-    let end = key + 35;
-    search::same_bytes(&file[key..end], &serial[0..35])
+    search::same_bytes(&file[key..key + 35], &serial[0..35])
 }
 
 // Whether e, what stands in a slot, is one of n entries and has this serial number.
+#[tactic(auto, unfolding(crate::specs::Inner::is_entry, index::specs::Index::size))]
 fn is_entry(file: &[u8], d: &[u32], n: usize, serial: &[u8], e: usize) -> bool
     requires directory { Directory file.now n d.now }
     requires in_bounds { 38 ≤ length serial.now }
     requires e_nonzero { 0 < e }
     ensures { result ≡ is_entry file.now d.now n serial.now e }
 {
-    if n < e {
-        return false;
-    }
-    let key = d[e - 1] as usize;
-    same_at(file, key, serial)
+    e <= n && same_at(file, d[e - 1] as usize, serial)
 }
 
-// The search from a slot on.
-fn look_from(file: &[u8], d: &[u32], n: usize, serial: &[u8], from: usize) -> usize
+// The entry with a serial number.
+#[tactic(auto, unfolding(index::specs::Index::size))]
+pub fn look_up(file: &[u8], d: &[u32], n: usize, serial: &[u8]) -> Option<usize>
     requires directory { Directory file.now n d.now }
     requires in_bounds { 38 ≤ length serial.now }
-    requires ahead { Ahead file.now d.now n serial.now from }
-    ensures { Sought file.now d.now n serial.now result }
+    ensures { MatchOption result (Sought file.now d.now n serial.now 0) (λ j. Sought file.now d.now n serial.now (j + 1)) }
 {
-    let mut i = from;
-    while i < d.len() {
-        let e = d[i] as usize;
+    let from = slot_for(index::hash(serial));
+    for slot in &d[from..] {
+        let e = *slot as usize;
         if e == 0 {
-            return 0;
+            return None;
         }
         if is_entry(file, d, n, serial, e) {
-            return e;
+            return Some(e - 1);
         }
-        i += 1;
     }
-    0
-}
-
-// The entry with a serial number, counted from 1; 0 where there is none.
-pub fn look_up(file: &[u8], d: &[u32], n: usize, serial: &[u8]) -> usize
-    requires directory { Directory file.now n d.now }
-    requires in_bounds { 38 ≤ length serial.now }
-    ensures { Sought file.now d.now n serial.now result }
-{
-    look_from(file, d, n, serial, slot_for(index::hash(serial)))
+    None
 }

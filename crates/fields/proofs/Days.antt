@@ -18,13 +18,14 @@ use mir.Syntax.{w64}
 use mir.Val.{Fits, bool_byte}
 use borrow.Author.Tests.{leb-true, eqb-true, eqb-false}
 use Rattle.metafile.specs.declared.Day.{Day}
-use Rattle.metafile.specs.declared.Day.TheVariants.{On, NoDate}
+use Rattle.std.specs.declared.option.Option.{Option}
+use Rattle.std.specs.declared.option.Option.TheVariants.{Some, None}
+use Rattle.std.specs.Option.{is_some}
 use Rattle.metafile.specs.Bytes.{bytes, part, all, same, sum}
 use Rattle.metafile.specs.Fields.{is_digit, digits_to, is_count, count_value, is_text, leap, month_days, year_of, month_of, day_of, is_date, is_serial}
-use Rattle.metafile.specs.Days.{civil, is_day, months_days, dated, day_in, day_read, serial_read, day_fault}
+use Rattle.metafile.specs.Days.{civil, is_day, months_days, dated, day_in, day_read, serial_read}
 use Rattle.metafile.proofs.DayNumbers.{is-day, is-month, digits-and-day, year-below}
-use Rattle.laws.proofs.First.{test, untrue, is_zero-eqb}
-use Rattle.laws.proofs.Dates.{date-asked}
+use Rattle.laws.proofs.First.{test, untrue}
 use Rattle.laws.proofs.Lists.{all-at}
 use Rattle.fields.proofs.Tables.{table, table_at}
 use Rattle.fields.proofs.Calendar.{month-none, month-february, month-other}
@@ -87,34 +88,25 @@ pub date-tested : (v : List ℕ) (digits : Bool) (y m d days : ℕ) → digits �
 unfolding is_date
 date-tested v digits y m d days p q r t u = rw (u, p, q, r, t)
 
-pub day-made : (v : List ℕ) (y m d : ℕ) → is_date v ≡ true → y ≡ year_of v → m ≡ month_of v → d ≡ day_of v → On y m d ≡ day_read v
+pub day-made : (v : List ℕ) (y m d : ℕ) → is_date v ≡ true → y ≡ year_of v → m ≡ month_of v → d ≡ day_of v → Some (record { year = y; month = m; day = d }) ≡ day_read v
 unfolding day_read day_in
 day-made v y m d e p q r = rw (e, p, q, r)
 
--- the parts of a day; of none they are 0
-year_in : Day → ℕ
-year_in (On y m d) = y
-year_in NoDate = 0
-
-month_in : Day → ℕ
-month_in (On y m d) = m
-month_in NoDate = 0
-
-day_of_in : Day → ℕ
-day_of_in (On y m d) = d
-day_of_in NoDate = 0
-
-pub read-on : (y m d : ℕ) (v : List ℕ) → On y m d ≡ day_read v → (is_day (civil y m d) ≡ true) × (y ≤ 9999)
-unfolding day_read day_in dated day_fault year_in month_in day_of_in
-read-on y m d v e =
+pub read-on : (d : Day) (v : List ℕ) → Some d ≡ day_read v → (is_day (civil d.year d.month d.day) ≡ true) × (d.year ≤ 9999)
+unfolding day_read day_in dated
+read-on d v e =
     test (is_date v)
     (λ q.
-    let is : On y m d ≡ On (year_of v) (month_of v) (day_of v) = rw q at e in
-    rw (ap year_in is, ap month_in is, ap day_of_in is) ((digits-and-day v q).1, year-below v q))
+    let some : Some d ≡ Some (day_in v) = rw q at e in
+    let is : d ≡ day_in v = cc in
+    rw is ((digits-and-day v q).1, year-below v q))
     (λ q.
-    let is : On y m d ≡ NoDate = rw q at e in
-    let none : 0 ≡ 6 = ap day_fault is in
-    absurd (omega (arith, none)))
+    let none : Some d ≡ None = rw q at e in
+    cc)
+
+pub date-some : (v : List ℕ) → is_some (day_read v) ≡ is_date v
+unfolding day_read
+date-some v = test (is_date v) (λ q. rw q) (λ q. rw q)
 
 pub serial-date : (v : List ℕ) → is_serial v ≡ true → is_date (part 1 8 v) ≡ true
 unfolding is_serial
@@ -123,17 +115,17 @@ serial-date v e =
     (λ q. test (same (part 0 1 v) (bytes "#")) (λ p. untrue (rw (p, q) at e)) (λ p. untrue (rw p at e)))
 
 -- the tests of a serial number, as the code makes them
-pub serial-tested : (v : List ℕ) (hash hour minute second ms text random counted : Bool) (fault n k : ℕ)
-    → hash ≡ same (part 0 1 v) (bytes "#") → fault ≡ day_fault (day_read (part 1 8 v)) → hour ≡ digits_to 23 (part 9 2 v)
+pub serial-tested : (v : List ℕ) (hash date hour minute second ms text random counted : Bool) (n k : ℕ)
+    → hash ≡ same (part 0 1 v) (bytes "#") → date ≡ is_some (day_read (part 1 8 v)) → hour ≡ digits_to 23 (part 9 2 v)
     → minute ≡ digits_to 59 (part 11 2 v) → second ≡ digits_to 59 (part 13 2 v) → ms ≡ digits_to 999 (part 15 3 v)
     → text ≡ all is_text (part 18 12 v) → random ≡ digits_to 65535 (part 30 5 v) → counted ≡ is_count (part 35 3 v)
     → n ≡ count_value (part 35 3 v) → k ≡ sum (take 35 v)
-    → (hash && eqb fault 0 && hour && minute && second && ms && text && random && counted && eqb n k) ≡ is_serial v
+    → (hash && date && hour && minute && second && ms && text && random && counted && eqb n k) ≡ is_serial v
 unfolding is_serial
-serial-tested v hash hour minute second ms text random counted fault n k p f a b c d t e g q r =
-    rw (p, f, a, b, c, d, t, e, g, q, r, is_zero-eqb (day_fault (day_read (part 1 8 v))), date-asked (part 1 8 v))
+serial-tested v hash date hour minute second ms text random counted n k p f a b c d t e g q r =
+    rw (p, f, a, b, c, d, t, e, g, q, r, date-some (part 1 8 v))
 
 -- what reading it gives is what reading its date gave
-pub serial-day : (v : List ℕ) (day : Day) → is_serial v ≡ true → day ≡ day_read (part 1 8 v) → day ≡ serial_read v
+pub serial-day : (v : List ℕ) (day : Option Day) → is_serial v ≡ true → day ≡ day_read (part 1 8 v) → day ≡ serial_read v
 unfolding serial_read day_read
 serial-day v day e is = is ∙ rw (e, serial-date v e)

@@ -3,9 +3,8 @@
 --     Small p x                 x is at most what n bytes come to, where p is 10^n
 --     small-more, small-fits    with one byte more; of at most 12 it fits 64 bits
 --     power_le                  the power before the twelfth byte
---     number-none               a loop from the last byte on, before its first turn
---     power-more, number_more   its step: one byte more in front
 --     number_append             the number of two runs of bytes, one behind the other
+--     power_at, number-last     a loop from the last byte on: the power, and one byte less before what was passed over
 --     digits-below              n digits come to less than 10^n
 --     digits-to                 what the test tells
 --     count_none, count-digits  a count of no bytes; one of digits alone
@@ -18,8 +17,7 @@ use mathlib.Core.List.{List, [], ◌∷◌, ◌++◌}
 use native.Mathlib.Omega.{arith}
 use native.Mathlib.Nat.{pow-le-pow_right, pow-suc, mul-le-mul_right}
 use lib.Dec.{leb}
-use lib.ListN.{length, drop, get_or, drop_of_length-le, length-drop}
-use lib.Seq.{drop-cons}
+use lib.ListN.{length, get_or}
 use borrow.Author.Tests.{leb-true, leb-false, le-leb, ne_eqb}
 use Rattle.metafile.specs.Bytes.{all, is_zero}
 use Rattle.metafile.specs.Fields.{is_digit, number, number_from, digits_to, is_space, take_while, drop_while, is_count, count_value}
@@ -41,8 +39,6 @@ small-fits p x d l h e = omega (arith, mul-le-mul_right p h)
 pub power_le : (n p : ℕ) → n ≤ 11 → p ≡ 10 ^ n → p ≤ 10 ^ 11
 power_le n p h e = rw e (pow-le-pow_right {n = 10} (omega arith) {i = n} {j = 11} h)
 
--- ---- the loop
-
 number_from-is : (x : ℕ) (s : List ℕ) → number_from x s ≡ x * 10 ^ length s + number_from 0 s
 unfolding number_from
 number_from-is x [] = omega arith
@@ -51,30 +47,29 @@ number_from-is x (d ∷ s) =
     let b = number_from-is (0 * 10 + (d - 48)) s in
     rw (a, b, pow-suc) (omega arith)
 
-module _ (s : List ℕ) where
-  pub number-none : 0 ≡ number (drop (length s) s)
-  unfolding number number_from
-  number-none = rw (drop_of_length-le s {i = length s} (omega arith))
-
-  module _ (i p : ℕ) (h : 0 < i) (l : i ≤ length s) (e : p ≡ 10 ^ (length s - i)) where
-    pub power-more : p * 10 ≡ 10 ^ (length s - (i - 1))
-    power-more =
-        let n : length s - (i - 1) ≡ suc (length s - i) = omega arith in
-        rw (n, pow-suc) (omega arith)
-
-    pub number_more : (x : ℕ) → x ≡ number (drop i s) → x + (get_or s (i - 1) 0 - 48) * p ≡ number (drop (i - 1) s)
-    unfolding number number_from
-    number_more x q =
-        let n : suc (i - 1) ≡ i = omega arith in
-        let k : i - 1 < length s = omega arith in
-        let d = get_or s (i - 1) 0 - 48 in
-        rw (drop-cons s (i - 1) 0 k, n, number_from-is (0 * 10 + d) (drop i s), length-drop, ← e, ← q) (omega arith)
-
 -- ---- two runs, and the number's size
 
 pub number_append : (s t : List ℕ) → number (s ++ t) ≡ number s * 10 ^ length t + number t
 unfolding number
 number_append s t = number_from-append 0 s t ∙ number_from-is (number_from 0 s) t
+
+-- ---- the loop: a power of 10, and one byte less before what was passed over
+
+pub power_at : (n k p : ℕ) → k + 1 ≤ n → p ≡ 10 ^ (n - (k + 1)) → p * 10 ≡ 10 ^ (n - k)
+power_at n k p h e =
+    let m : n - k ≡ suc (n - (k + 1)) = omega arith in
+    rw (m, pow-suc) (omega arith)
+
+pub number_none : (whole : ℕ) (rest : List ℕ) (p x : ℕ) → length rest ≡ 0 → whole ≡ number rest * p + x → x ≡ whole
+unfolding number number_from
+number_none whole [] p x h e = omega (arith, e)
+number_none whole (d ∷ rest) p x h e = absurd (omega arith)
+
+pub number-last : (whole : ℕ) (rest : List ℕ) (d p x : ℕ) → whole ≡ number (rest ++ d ∷ []) * p + x
+    → whole ≡ number rest * (p * 10) + (x + (d - 48) * p)
+unfolding number number_from
+number-last whole rest d p x e =
+    omega (arith, e, ap (λ n. n * p) (number_append rest (d ∷ [])))
 
 digit-le : (x : ℕ) → is_digit x ≡ true → x - 48 ≤ 9
 unfolding is_digit

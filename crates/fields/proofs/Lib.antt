@@ -4,7 +4,7 @@
 -- Calendar   the days of a month
 -- Days       the number of a day
 -- Decimal    the parts of a decimal, and its value
--- Same       bytes compared and copied
+-- Same       bytes compared
 -- Offset     time offsets: the sign, the tests, the value
 pub mod Prefix
 pub mod Digits

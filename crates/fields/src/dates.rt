@@ -21,12 +21,12 @@ fn month_days(year: u64, month: u64) -> u64
         return 0;
     }
     if month == 2 {
-        return 28 + leap(year) as u64;
+        return 28 + u64::from(leap(year));
     }
     30 + (month + month / 8) % 2
 }
 
-pub fn read_date(s: &[u8]) -> Day
+pub fn read_date(s: &[u8]) -> Option<Day>
     requires { length s.now ≡ 8 }
     ensures { result ≡ day_read s.now }
 {
@@ -36,9 +36,13 @@ pub fn read_date(s: &[u8]) -> Day
     // over a length that the compiler knows
     let digits = is_digits(&s[..8]);
     if digits & (1 <= year) & (1 <= day) & (day <= month_days(year, month)) {
-        return Day::On(year as u16, month as u8, day as u8);
+        return Some(Day {
+            year: year as u16,
+            month: month as u8,
+            day: day as u8,
+        });
     }
-    Day::NoDate
+    None
 }
 
 // ---- the number of a day
@@ -61,7 +65,7 @@ fn month_start(year: u64, month: u64) -> u64
     ensures { result ≡ months_days year (month - 1) }
 {
     let m = month as usize;
-    MONTH_STARTS[m] + ((2 < month) & leap(year)) as u64
+    MONTH_STARTS[m] + u64::from((2 < month) & leap(year))
 }
 
 fn number_on(year: u64, month: u64, day: u64) -> u32
@@ -73,12 +77,12 @@ fn number_on(year: u64, month: u64, day: u64) -> u32
 }
 
 // The number of the day that was read, 0 where there is none. In a reading nobody asks for it.
-pub fn day_number(day: Day) -> u32
+pub fn day_number(day: Option<Day>) -> u32
     requires { Read day }
     ensures { result ≡ day_value_of day }
 {
     match day {
-        Day::On(year, month, day) => number_on(year as u64, month as u64, day as u64),
-        Day::NoDate => 0,
+        Some(d) => number_on(u64::from(d.year), u64::from(d.month), u64::from(d.day)),
+        None => 0,
     }
 }

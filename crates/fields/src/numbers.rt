@@ -8,17 +8,9 @@ ghost use Rattle.metafile.specs.Fields.{is_digit, number, digits_to, is_count, c
 pub fn leading(s: &[u8], low: u8, high: u8) -> usize
     ensures { result ≡ length (take_while (λ x. leb low x && leb x high) s.now) }
 {
-    let mut i: usize = 0;
-    while i < s.len() {
-        if s[i] < low {
-            return i;
-        }
-        if s[i] > high {
-            return i;
-        }
-        i += 1;
-    }
-    i
+    s.iter()
+        .take_while(|x| (low <= **x) & (**x <= high))
+        .count()
 }
 
 // What follows the bytes at the start of s that lie from low to high.
@@ -33,14 +25,8 @@ pub fn after(s: &[u8], low: u8, high: u8) -> &[u8]
 fn within(s: &[u8], low: u8, high: u8) -> bool
     ensures { result ≡ all (λ x. leb low x && leb x high) s.now }
 {
-    let mut good = true;
-    let mut i: usize = 0;
-    while i < s.len() {
-        let x = s[i];
-        good = good & (low <= x) & (x <= high);
-        i += 1;
-    }
-    good
+    s.iter()
+        .fold(true, |good, x| good & ((low <= *x) & (*x <= high)))
 }
 
 pub fn is_digits(s: &[u8]) -> bool
@@ -57,12 +43,10 @@ pub fn is_text(s: &[u8]) -> bool
 
 // A byte as a digit: what it is above "0", and 0 where it is below.
 fn digit(x: u8) -> u64
-    ensures { result ≡ x - 48 }
+    ensures value { result ≡ x - 48 }
+    ensures small { result ≤ 207 }
 {
-    if x < 48 {
-        return 0;
-    }
-    (x - 48) as u64
+    u64::from(x.saturating_sub(b'0'))
 }
 
 // The number that digits come to, from the last on: no product waits for the sum.
@@ -72,11 +56,9 @@ pub fn number(s: &[u8]) -> u64
 {
     let mut value: u64 = 0;
     let mut power: u64 = 1;
-    let mut left: usize = s.len();
-    while 0 < left {
-        left -= 1;
-        value = value + digit(s[left]) * power;
-        power = power * 10;
+    for x in s.iter().rev() {
+        value += digit(*x) * power;
+        power *= 10;
     }
     value
 }

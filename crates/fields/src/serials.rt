@@ -9,25 +9,25 @@ use crate::dates::read_date;
 use crate::numbers::{count_value, digits_at, is_count, is_text};
 use metafile::Day;
 
-pub fn read_serial(serial: [u8; 38]) -> Day
+pub fn read_serial(serial: [u8; 38]) -> Option<Day>
     ensures { result ≡ serial_read serial }
 {
     let s = &serial[..];
     let check = &s[35..38];
     let day = read_date(&s[1..9]);
     let good = (s[0] == b'#')
-        & (day.fault() == 0)
+        & day.is_some()
         & digits_at(s, 9, 2, 23)
         & digits_at(s, 11, 2, 59)
         & digits_at(s, 13, 2, 59)
         & digits_at(s, 15, 3, 999)
         & is_text(&s[18..30])
         & digits_at(s, 30, 5, 65535);
-    let right = count_value(check) == sums::byte_sum(&s[0..35]) as u64;
+    let right = count_value(check) == u64::from(sums::byte_sum(&s[0..35]));
     if good & is_count(check) & right {
         return day;
     }
-    Day::NoDate
+    None
 }
 
 // "Serials are compared by their first 35 bytes."
@@ -44,11 +44,8 @@ pub fn serial_from(s: &[u8]) -> [u8; 38]
     requires { 38 ≤ length s.now }
     ensures { result ≡ take 38 s.now }
 {
-    let mut serial: [u8; 38] = [0; 38];
-    let mut n: usize = 0;
-    while n < 38 {
-        serial[n] = s[n];
-        n += 1;
-    }
-    serial
+    let Some(serial) = s.first_chunk::<38>() else {
+        unreachable!()
+    };
+    *serial
 }

@@ -3,26 +3,25 @@
 // array that the caller lends. The contracts cite specs/Filter; the laws are in proofs/Laws. None of it is a public call.
 #![tactic(auto)]
 
-ghost use Rattle.std.specs.Prelude.{◌≡◌, ◌<◌, ◌≤◌, length};
-ghost use Rattle.filter.specs.Filter.{first_of, second_of, entry_of, bits_of, set_at, with_bits, covered_by, covering};
+ghost use Rattle.std.specs.Prelude.{◌≡◌, ◌*◌, ◌%◌, ◌<◌, ◌≤◌, length};
+ghost use Rattle.filter.specs.Filter.{entry_of, bits_of, set_at, with_bits, covered_by, covering};
 
-// The first number of a hash.
-fn first(hash: u64) -> u64
-    ensures { result ≡ first_of hash }
-{
-    let m = hash % 2147483647;
-    m * m % 2147483647
-}
+// The primes of the two numbers of a hash.
+const FIRST: u64 = 2147483647;
 
-// The second.
-fn second(hash: u64) -> u64
-    ensures { result ≡ second_of hash }
+const SECOND: u64 = 4294967291;
+
+// A number of a hash: its square modulo a prime.
+fn number<const P: u64>(hash: u64) -> u64
+    requires { (0 < P) × (P ≤ 4294967296) }
+    ensures { result ≡ (hash % P) * (hash % P) % P }
 {
-    let m = hash % 4294967291;
-    m * m % 4294967291
+    let m = hash % P;
+    m * m % P
 }
 
 // The entry of a number.
+#[tactic(auto, unfolding(crate::specs::Filter::entry_of))]
 fn entry(n: u64) -> usize
     ensures { (result ≡ entry_of n) × (result ≤ 196613) }
 {
@@ -39,6 +38,7 @@ fn bits(n: u64) -> u32
 }
 
 // Whether the bits of a number are set.
+#[tactic(auto, unfolding(crate::specs::Filter::set_at))]
 fn is_set(words: &[u32], n: u64) -> bool
     requires { 196613 < length words.now }
     ensures { result ≡ set_at n words.now }
@@ -49,32 +49,30 @@ fn is_set(words: &[u32], n: u64) -> bool
 }
 
 // Sets the bits of a number.
+#[tactic(auto, unfolding(crate::specs::Filter::with_bits))]
 fn set_bits(words: &mut [u32], n: u64)
     requires { 196613 < length words.old }
     ensures { words.new ≡ with_bits n words.old }
 {
     let i = entry(n);
-    words[i] = words[i] | bits(n);
+    words[i] |= bits(n);
 }
 
 // Whether all bits of a hash are set.
+#[tactic(auto, unfolding(crate::specs::Filter::covered_by, crate::specs::Filter::first_of, crate::specs::Filter::second_of))]
 pub fn covered(words: &[u32], hash: u64) -> bool
     requires { 196613 < length words.now }
     ensures { result ≡ covered_by words.now hash }
 {
-    if is_set(words, first(hash)) {
-        return is_set(words, second(hash));
-    }
-    false
+    is_set(words, number::<FIRST>(hash)) && is_set(words, number::<SECOND>(hash))
 }
 
 // Sets the bits of a hash.
+#[tactic(auto, unfolding(crate::specs::Filter::covering, crate::specs::Filter::first_of, crate::specs::Filter::second_of))]
 pub fn cover(words: &mut [u32], hash: u64)
     requires { 196613 < length words.old }
     ensures { words.new ≡ covering hash words.old }
 {
-    let a = first(hash);
-    let b = second(hash);
-    set_bits(words, a);
-    set_bits(words, b);
+    set_bits(words, number::<FIRST>(hash));
+    set_bits(words, number::<SECOND>(hash));
 }

@@ -1,2 +1,2 @@
--- Laws   what the table says, and what the functions do to the marks
+-- Laws   what the functions do to the marks
 pub mod Laws

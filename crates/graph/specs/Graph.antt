@@ -1,75 +1,79 @@
--- Rows that go to other rows, as a table of 64 × 64 bytes, and the marks of rows in a search through them. What a row reaches is
--- defined in the crate metafile (specs/Closure). Assumes nothing.
-use Rattle.std.specs.Prelude.{ℕ, ◌+◌, ◌*◌, ◌≤◌, ◌<◌, Bool, true, false, not, ◌≡◌, List, [], ◌∷◌, eqb, length, get_or}
-use Rattle.metafile.specs.Bytes.{is_zero, non_zero}
-use Rattle.metafile.specs.Answers.{flag}
+-- Rows that go to other rows, as a table of 64 rows of 64, and the marks of rows in a search through them. What a row reaches
+-- is defined in the crate metafile (specs/Closure). Assumes nothing.
+use Rattle.std.specs.Prelude.{ℕ, ◌+◌, ◌≤◌, ◌<◌, Bool, true, false, ◌≡◌, List, [], ◌∷◌, length, get_or}
 use Rattle.metafile.specs.Closure.{by_way, within, circular_from}
+use Rattle.graph.specs.declared.Mark.{Mark}
+use Rattle.graph.specs.declared.Mark.TheVariants.{Unvisited, OnPath, Done}
 
 -- row a goes to row b
-unfoldable pub goes : List ℕ → ℕ → ℕ → Bool
-goes t a b = non_zero (get_or t (a * 64 + b) 0)
+unfoldable pub goes : List (List Bool) → ℕ → ℕ → Bool
+goes t a b = get_or (get_or t a []) b false
 
--- ---- marks: 0 unvisited, 1 on the path, 2 done
+-- ---- marks
 
-abbrev pub mark : List ℕ → ℕ → ℕ
-mark m a = get_or m a 0
+abbrev pub mark : List Mark → ℕ → Mark
+mark m a = get_or m a Unvisited
+
+unfoldable pub is_done : Mark → Bool
+is_done Unvisited = false
+is_done OnPath = false
+is_done Done = true
 
 -- how many are unvisited
-unfoldable pub unvisited : List ℕ → ℕ
+unfoldable pub unvisited : List Mark → ℕ
 unvisited [] = 0
-unvisited (x ∷ m) = flag (is_zero x) + unvisited m
+unvisited (Unvisited ∷ m) = 1 + unvisited m
+unvisited (OnPath ∷ m) = unvisited m
+unvisited (Done ∷ m) = unvisited m
 
 -- marks at a call: a row that is done goes to rows that are done, and doesn't reach itself
-pub record Sound (t : List ℕ) (n : ℕ) (m : List ℕ) : Type 0 where
+pub record Sound (t : List (List Bool)) (n : ℕ) (m : List Mark) : Type 0 where
   pub long : length m ≡ 64
-  pub small : (a : ℕ) → a < n → mark m a ≤ 2
-  pub closed : (a b : ℕ) → a < n → b < n → mark m a ≡ 2 → goes t a b ≡ true → mark m b ≡ 2
-  pub acyclic : (a : ℕ) → a < n → mark m a ≡ 2 → by_way (goes t) n a a ≡ false
+  pub closed : (a b : ℕ) → a < n → b < n → mark m a ≡ Done → goes t a b ≡ true → mark m b ≡ Done
+  pub acyclic : (a : ℕ) → a < n → mark m a ≡ Done → by_way (goes t) n a a ≡ false
 
 -- marks before and after a call that answers true: the path is the same, and a row that is newly done is within `row`
-pub record Grown (t : List ℕ) (n row : ℕ) (m m' : List ℕ) : Type 0 where
-  pub path-kept : (a : ℕ) → mark m a ≡ 1 → mark m' a ≡ 1
-  pub path-only : (a : ℕ) → mark m' a ≡ 1 → mark m a ≡ 1
-  pub done-kept : (a : ℕ) → mark m a ≡ 2 → mark m' a ≡ 2
-  pub done-from : (a : ℕ) → a < n → (mark m a ≡ 2 → ⊥) → mark m' a ≡ 2 → within (goes t) n row a ≡ true
+pub record Grown (t : List (List Bool)) (n row : ℕ) (m m' : List Mark) : Type 0 where
+  pub path-kept : (a : ℕ) → mark m a ≡ OnPath → mark m' a ≡ OnPath
+  pub path-only : (a : ℕ) → mark m' a ≡ OnPath → mark m a ≡ OnPath
+  pub done-kept : (a : ℕ) → mark m a ≡ Done → mark m' a ≡ Done
+  pub done-from : (a : ℕ) → a < n → (mark m a ≡ Done → ⊥) → mark m' a ≡ Done → within (goes t) n row a ≡ true
   pub fewer : unvisited m' ≤ unvisited m
 
 -- ---- what the functions ask
 
 -- both
-pub record Given (t : List ℕ) (n row : ℕ) (m : List ℕ) : Type 0 where
-  pub table : length t ≡ 4096
+pub record Given (t : List (List Bool)) (n row : ℕ) (m : List Mark) : Type 0 where
   pub rows : n ≤ 64
   pub inside : row < n
   pub sound : Sound t n m
 
 -- `standing`: every row on the path reaches this one
-pub record StandingGiven (t : List ℕ) (n row : ℕ) (m : List ℕ) : Type 0 where
+pub record StandingGiven (t : List (List Bool)) (n row : ℕ) (m : List Mark) : Type 0 where
   pub given : Given t n row m
-  pub path : (p : ℕ) → p < n → mark m p ≡ 1 → by_way (goes t) n p row ≡ true
+  pub path : (p : ℕ) → p < n → mark m p ≡ OnPath → by_way (goes t) n p row ≡ true
 
 -- `listed`: this row is on the path, and every other row on it reaches this one
-pub record ListGiven (t : List ℕ) (n row : ℕ) (m : List ℕ) : Type 0 where
+pub record ListGiven (t : List (List Bool)) (n row : ℕ) (m : List Mark) : Type 0 where
   pub given : Given t n row m
-  pub own : mark m row ≡ 1
-  pub path : (p : ℕ) → p < n → mark m p ≡ 1 → within (goes t) n p row ≡ true
+  pub own : mark m row ≡ OnPath
+  pub path : (p : ℕ) → p < n → mark m p ≡ OnPath → within (goes t) n p row ≡ true
 
 -- ---- what they answer
 
 -- `standing`, where true: the row is done
-pub record RowDone (t : List ℕ) (n row : ℕ) (m m' : List ℕ) : Type 0 where
+pub record RowDone (t : List (List Bool)) (n row : ℕ) (m m' : List Mark) : Type 0 where
   pub sound : Sound t n m'
   pub grown : Grown t n row m m'
-  pub done : mark m' row ≡ 2
+  pub done : mark m' row ≡ Done
 
 -- `listed`, where true, at n, and its loop at b: the rows below b that the row goes to are done
-pub record ListDone (t : List ℕ) (n row b : ℕ) (m m' : List ℕ) : Type 0 where
+pub record ListDone (t : List (List Bool)) (n row b : ℕ) (m m' : List Mark) : Type 0 where
   pub sound : Sound t n m'
   pub grown : Grown t n row m m'
-  pub done : (a : ℕ) → a < b → goes t row a ≡ true → mark m' a ≡ 2
+  pub done : (a : ℕ) → a < b → goes t row a ≡ true → mark m' a ≡ Done
 
--- `reach`: whether no circle is reached from the row; where none is, the done rows are the row and those that it reaches
-pub record Reached (t : List ℕ) (n row : ℕ) (fine : Bool) (m : List ℕ) : Type 0 where
-  pub circle : fine ≡ not (circular_from (goes t) n row)
-  pub long : fine ≡ true → length m ≡ 64
-  pub marked : fine ≡ true → (a : ℕ) → a < n → eqb (get_or m a 0) 2 ≡ within (goes t) n row a
+-- `reach`, where no circle is reached from the row: the done rows are the row and those that it reaches
+pub record Reached (t : List (List Bool)) (n row : ℕ) (m : List Mark) : Type 0 where
+  pub acyclic : circular_from (goes t) n row ≡ false
+  pub marked : (a : ℕ) → a < n → is_done (mark m a) ≡ within (goes t) n row a

@@ -1,22 +1,23 @@
 -- What the functions of src/lib.rt need of the definitions in specs/Index.
 --     word-is         four bytes of a serial number; nine-are: nine times four, with their weights
 --     square-small    the square of a remainder fits
---     first-..        the search among the entries: an empty slot, the tag, one entry passed, the end
+--     first-found     what `position` answers is the first entry that is empty or the tag
 --     place-..        the place that is found: near, or the end
 -- Assumes nothing.
 use Prim.Native.Nat.{ℕ, zero, suc, ◌+◌, ◌-◌, ◌*◌, ◌≤◌, ◌<◌}
-use mathlib.Core.Bool.{◌||◌}
-use mathlib.Core.Path.{◌≡◌, sym, ap, ◌∙◌}
+use mathlib.Core.Bool.{◌||◌, cond}
+use mathlib.Core.Path.{◌≡◌, refl, ap, ◌∙◌}
 use mathlib.Core.List.{List, [], ◌∷◌}
 use native.Mathlib.Nat.{mul-le-mul_right}
 use native.Mathlib.Omega.{arith}
-use native.Mathlib.Numerals.{add-one}
-use lib.Dec.{eqb}
-use lib.ListN.{length, take, drop, get_or, length-drop, drop_of_length-le}
-use lib.Seq.{drop-cons}
-use borrow.Author.Tests.{eq-eqb, ne_eqb, lt-ltb, le-ltb}
+use lib.Dec.{eqb, ltb}
+use lib.ListN.{length, take, drop, length-drop}
+use borrow.Author.Tests.{lt-ltb, le-ltb, ltb-true, ltb-false}
+use Rattle.std.proofs.Common.{Option, Some, None, MatchOption}
+use Rattle.std.specs.List.{position_or_len}
+use Rattle.std.proofs.lemmas.List.Recursion.{is_position_or_len}
 use Rattle.metafile.specs.Bytes.{is_zero}
-use Rattle.laws.proofs.First.{test, is_zero-is, is_zero-not}
+use Rattle.laws.proofs.First.{test, is_zero-eqb}
 use Rattle.sums.specs.Lanes.{half_of}
 use Rattle.index.specs.Index.{word_at, hash_of, tag_of, slot_of, first_of, place_for, near_for}
 
@@ -39,24 +40,27 @@ square-small m h = mul-le-mul_right m (omega arith)
 
 -- ---- the first entry that is empty or the tag
 
-module _ (t : ℕ) (xs : List ℕ) (i : ℕ) (e : first_of t xs ≡ i + first_of t (drop i xs)) where
-  pub first-end : length xs ≤ i → i ≡ first_of t xs
-  unfolding first_of
-  first-end l = sym (e ∙ rw (drop_of_length-le xs l) (omega arith))
+first-within : (t : ℕ) (xs : List ℕ) → first_of t xs ≤ length xs
+unfolding first_of
+first-within t [] = omega arith
+first-within t (x ∷ xs) = test (is_zero x || eqb x t) (λ q. rw q (omega arith)) (λ q. rw q (omega (arith, first-within t xs)))
 
-  module _ (l : i < length xs) where
-    pub first-empty : get_or xs i 0 ≡ 0 → i ≡ first_of t xs
-    unfolding first_of
-    first-empty z = sym (e ∙ rw (drop-cons xs i 0 l, is_zero-is (get_or xs i 0) z) (omega arith))
+first-position : (t : ℕ) (xs : List ℕ) → first_of t xs ≡ position_or_len (λ x. eqb x 0 || eqb x t) xs
+unfolding first_of
+first-position t xs =
+    is_position_or_len (first_of t) (λ x. eqb x 0 || eqb x t) refl
+    (λ x ys. let n : suc (first_of t ys) ≡ 1 + first_of t ys = omega arith in rw (is_zero-eqb x, n))
+    xs
 
-    module _ (n : get_or xs i 0 ≡ 0 → ⊥) where
-      pub first-this : get_or xs i 0 ≡ t → i ≡ first_of t xs
-      unfolding first_of
-      first-this q = sym (e ∙ rw (drop-cons xs i 0 l, is_zero-not (get_or xs i 0) n, eq-eqb (get_or xs i 0) t q) (omega arith))
-
-      pub first_next : (get_or xs i 0 ≡ t → ⊥) → first_of t xs ≡ i + 1 + first_of t (drop (i + 1) xs)
-      unfolding first_of
-      first_next q = e ∙ rw (drop-cons xs i 0 l, is_zero-not (get_or xs i 0) n, ne_eqb (get_or xs i 0) t q, add-one) (omega arith)
+-- r is what `position` answers
+pub first-found : (t : ℕ) (xs : List ℕ) (r : Option ℕ)
+    → r ≡ cond (ltb (position_or_len (λ x. eqb x 0 || eqb x t) xs) (length xs)) (Some (position_or_len (λ x. eqb x 0 || eqb x t) xs)) None
+    → MatchOption r (first_of t xs ≡ length xs) (λ i. (i ≡ first_of t xs) × (i < length xs))
+first-found t xs r e =
+    let f : r ≡ cond (ltb (first_of t xs) (length xs)) (Some (first_of t xs)) None = rw first-position e in
+    test (ltb (first_of t xs) (length xs))
+    (λ q. rw (f, q) (refl, ltb-true (first_of t xs) (length xs) q))
+    (λ q. rw (f, q) (omega (arith, first-within t xs, ltb-false (first_of t xs) (length xs) q)))
 
 -- among the first n entries: where it is one of them it is the first of all, else that comes behind them
 first-near : (t n : ℕ) (xs : List ℕ) → first_of t (take n xs) < n → n ≤ length xs → first_of t (take n xs) ≡ first_of t xs

@@ -5,7 +5,7 @@
 // made of one hash. The contracts cite specs/Index; the laws of the index are in proofs/Laws. None of it is a public call.
 #![tactic(auto)]
 
-ghost use Rattle.std.specs.Prelude.{◌≡◌, ◌+◌, ◌≤◌, ◌<◌, length};
+ghost use Rattle.std.specs.Prelude.{◌≡◌, ◌+◌, ◌≤◌, ◌<◌, length, MatchOption};
 ghost use Rattle.index.specs.Index.{word_at, hash_of, tag_of, slot_of, first_of, size, near_for};
 
 // Four bytes as a number, the first lowest.
@@ -13,8 +13,7 @@ fn word(s: &[u8], at: usize) -> u64
     requires { at + 4 ≤ length s.now }
     ensures { (result ≡ word_at at s.now) × (result < 4294967296) }
 {
-    let end = at + 4;
-    sums::half_word(&s[at..end])
+    sums::half_word(&s[at..at + 4])
 }
 
 // The hash of a serial number: its first 35 bytes, four at a time, each four with its weight; the last four begin in those
@@ -30,6 +29,7 @@ pub fn hash(s: &[u8]) -> u64
 }
 
 // What stands in the index for a hash: a number below 2^32 that is never 0.
+#[tactic(auto, unfolding(crate::specs::Index::tag_of))]
 pub fn tag(hash: u64) -> u32
     ensures { result ≡ tag_of hash }
 {
@@ -38,41 +38,29 @@ pub fn tag(hash: u64) -> u32
 
 // The slot at which the search for a hash begins.
 pub fn slot(hash: u64) -> usize
-    ensures { result ≡ slot_of hash }
+    ensures { (result ≡ slot_of hash) × (result < 196613) }
 {
     let m = hash % 2147483647;
     (m * m % 2147483647 % 196613) as usize
 }
 
-// The first entry that is empty or this tag; the end where there is none.
-pub fn first(entries: &[u32], tag: u32) -> usize
-    ensures { result ≡ first_of tag entries.now }
+// The first entry that is empty or this tag.
+pub fn first(entries: &[u32], tag: u32) -> Option<usize>
+    ensures { MatchOption result (first_of tag entries.now ≡ length entries.now) (λ i. (i ≡ first_of tag entries.now) × (i < length entries.now)) }
 {
-    let mut i: usize = 0;
-    while i < entries.len() {
-        let x = entries[i];
-        if x == 0 {
-            return i;
-        }
-        if x == tag {
-            return i;
-        }
-        i += 1;
-    }
-    i
+    entries.iter().position(|x| *x == 0 || *x == tag)
 }
 
 // The place of a hash in the index: the first of 512 slots, from its own on, that is empty or has its tag; the end where none
 // of them is.
+#[tactic(auto, unfolding(crate::specs::Index::size))]
 pub fn place(index: &[u32], hash: u64) -> usize
     requires { length index.now ≡ size }
     ensures { result ≡ near_for hash index.now }
 {
     let from = 1 + slot(hash);
-    let end = from + 512;
-    let steps = first(&index[from..end], tag(hash));
-    if steps < 512 {
-        return from + steps;
+    match first(&index[from..from + 512], tag(hash)) {
+        Some(steps) => from + steps,
+        None => index.len(),
     }
-    index.len()
 }

@@ -13,8 +13,8 @@ use mathlib.Core.List.{List, [], ◌∷◌, ◌++◌}
 use native.Mathlib.Nat.{pow-le-pow_right, mul-le-mul_right, mul_assoc, mul-one, one-mul, pow-succ'}
 use native.Mathlib.Omega.{arith}
 use lib.Dec.{leb, eqb}
-use lib.ListN.{length, take, drop, length-drop}
-use lib.Seq.{drop-drop, take-take, length-take-le}
+use lib.ListN.{length, take, drop}
+use lib.Seq.{take_all, take-take, length-take-le}
 use borrow.Author.Tests.{eqb-true, eqb-false, eq-eqb, ne_eqb, leb-true, le-leb}
 use Rattle.metafile.specs.Fields.{is_digit, number_from, number, is_space, drop_while, is_count, count_value}
 use Rattle.metafile.specs.Bytes.{bytes, part, all, ◌⊳◌, require, same, member}
@@ -26,9 +26,13 @@ use Rattle.table.specs.Codes.{line_no, code_no, kind_of}
 use Rattle.table.proofs.Lines.{kind-is, checksum-small}
 use Rattle.laws.proofs.First.{test, and_both, or_left, or_right, ⊳-stop, ⊳-go, or-none}
 use Rattle.laws.proofs.Lists.{same-eq}
+use Rattle.laws.proofs.Loops.{part-drop}
 use Rattle.laws.proofs.Table.{field-short, field-long, field-enough}
 use Rattle.fields.proofs.Prefix.{rest_le}
+use Rattle.metafile.specs.declared.refusal.Refusal.{Refusal}
+use Rattle.metafile.specs.Refusals.{number_of}
 use Rattle.lines.specs.Words.{word_no, Three}
+use Rattle.lines.proofs.Runs.{refused}
 
 -- ---- numbers in n digits
 
@@ -61,25 +65,18 @@ number-judged n v l b e =
     (λ q. rw (e, q, le-leb (count_value v) (10 ^ n - 1) (count-below n v l q)))
     (λ q. rw (e, q))
 
--- n bytes at a place
-pub long : (s : List ℕ) (at n : ℕ) → n ≤ length s - at → length (take (at + n - at) (drop at s)) ≡ n
-long s at n h =
-    let width : at + n - at ≡ n = omega arith in
-    rw width (length-take-le n (drop at s) (simp length-drop h))
+-- the n bytes of a field
+pub long : (s v : List ℕ) (n : ℕ) → n ≤ length s → v ≡ take n s → length v ≡ n
+long s v n h e = rw e (length-take-le n s h)
 
 -- ---- one field
 
-module _ (n : ℕ) (own : List ℕ → ℕ) (s : List ℕ) (at : ℕ) where
-  pub judged-short : length s - at < n → 4 ≡ field_fault n own (drop at s)
-  judged-short h = sym (field-short n own (drop at s) (simp length-drop h))
+module _ (n : ℕ) (own : List ℕ → ℕ) (s : List ℕ) where
+  pub judged-short : length s < n → 4 ≡ field_fault n own s
+  judged-short h = sym (field-short n own s h)
 
-  pub judged : (r : ℕ) → at ≤ length s → n ≤ length s - at → r ≡ own (take (at + n - at) (drop at s)) → r ≡ field_fault n own (drop at s)
-  judged r h l e =
-      let width : at + n - at ≡ n = omega arith in
-      rw width at e ∙ sym (field-long n own (drop at s) (simp length-drop l))
-
-  pub judged-part : (r : ℕ) → n ≤ length s - at → r ≡ own (part at n s) → r ≡ field_fault n own (drop at s)
-  judged-part r l e = e ∙ sym (field-long n own (drop at s) (simp length-drop l))
+  pub judged : (r : ℕ) (v : List ℕ) → n ≤ length s → v ≡ take n s → r ≡ own v → r ≡ field_fault n own s
+  judged r v l e f = f ∙ ap own e ∙ sym (field-long n own s l)
 
 -- ---- a rule of a constant list, tested once at all its places
 
@@ -153,10 +150,15 @@ pub either-own : (a b v : List ℕ) (x y : Bool) → x ≡ same v a → y ≡ sa
 unfolding word_fault
 either-own a b v x y e f = rw (word_two a b v x y e f)
 
-pub serial-taken : (s : List ℕ) (at : ℕ) → take 38 (take (at + 38 - at) (drop at s)) ≡ take (at + 38 - at) (drop at s)
-serial-taken s at =
-    let width : at + 38 - at ≡ 38 = omega arith in
-    rw width (take-take 38 38 (drop at s) (omega arith))
+pub serial-taken : (s v : List ℕ) → v ≡ take 38 s → take 38 v ≡ v
+serial-taken s v e = rw e (take-take 38 38 s (omega arith))
+
+-- a word taken out is the word at the place
+pub word-whole : (v : List ℕ) (w : ℕ) → length v ≡ 3 → same (part 0 3 v) (word_no w) ≡ same v (word_no w)
+word-whole v w l = ap (λ x. same x (word_no w)) (take_all 3 v (omega arith))
+
+pub word-out : (s v : List ℕ) (w : ℕ) → v ≡ take 3 s → same (part 0 3 v) (word_no w) ≡ same (take 3 s) (word_no w)
+word-out s v w e = rw (e, take-take 3 3 s (omega arith))
 
 -- ---- a word, then 38 bytes
 
@@ -165,49 +167,47 @@ unfolding member
 member-append x [] b = refl
 member-append x (y ∷ a) b = test (same x y) (λ e. rw e) (λ e. rw e (member-append x a b))
 
-module _ (frees serials : List (List ℕ)) (s : List ℕ) (at : ℕ) where
-  pub stamp-short : length s - at < 3 → 4 ≡ kind_fault (stamp frees serials) (drop at s)
+module _ (frees serials : List (List ℕ)) (s : List ℕ) where
+  pub stamp-short : length s < 3 → 4 ≡ kind_fault (stamp frees serials) s
   unfolding kind_fault ◌⊳◌
-  stamp-short h = rw (field-short 3 (word_fault (frees ++ serials)) (drop at s) (simp length-drop h))
+  stamp-short h = rw (field-short 3 (word_fault (frees ++ serials)) s h)
 
-  module _ (long : 3 ≤ length s - at) where
-    word-judged : field_fault 3 (word_fault (frees ++ serials)) (drop at s) ≡ require (member (part at 3 s) frees || member (part at 3 s) serials) 5
+  module _ (long : 3 ≤ length s) where
+    word-judged : field_fault 3 (word_fault (frees ++ serials)) s ≡ require (member (take 3 s) frees || member (take 3 s) serials) 5
     unfolding word_fault
-    word-judged =
-        field-long 3 (word_fault (frees ++ serials)) (drop at s) (simp length-drop long) ∙ rw (member-append (part at 3 s) frees serials)
+    word-judged = field-long 3 (word_fault (frees ++ serials)) s long ∙ rw (member-append (take 3 s) frees serials)
 
-    pub stamp-other : member (part at 3 s) frees ≡ false → member (part at 3 s) serials ≡ false → 5 ≡ kind_fault (stamp frees serials) (drop at s)
+    pub stamp-other : member (take 3 s) frees ≡ false → member (take 3 s) serials ≡ false → 5 ≡ kind_fault (stamp frees serials) s
     unfolding kind_fault ◌⊳◌ require
     stamp-other e f = rw (word-judged, e, f)
 
     -- the word stands: what follows it is judged
-    stamp-word : (member (part at 3 s) frees || member (part at 3 s) serials) ≡ true
-        → kind_fault (stamp frees serials) (drop at s) ≡ field_fault 38 (stamp_fault serials (part at 3 s)) (drop (at + 3) s)
+    stamp-word : (member (take 3 s) frees || member (take 3 s) serials) ≡ true
+        → kind_fault (stamp frees serials) s ≡ field_fault 38 (stamp_fault serials (take 3 s)) (drop 3 s)
     unfolding kind_fault ◌⊳◌ require
-    stamp-word e = rw (word-judged, e, drop-drop 3 at s)
+    stamp-word e = rw (word-judged, e)
 
-    pub stamp-serial : member (part at 3 s) serials ≡ true → field_fault 38 serial_fault (drop (at + 3) s) ≡ kind_fault (stamp frees serials) (drop at s)
-    stamp-serial e = sym (stamp-word (or_right (member (part at 3 s) frees) (member (part at 3 s) serials) e) ∙ (unfold field_fault stamp_fault in rw e))
+    pub stamp-serial : member (take 3 s) serials ≡ true → field_fault 38 serial_fault (take (length s - 3) (drop 3 s)) ≡ kind_fault (stamp frees serials) s
+    stamp-serial e = rw (part-drop s 3) (sym (stamp-word (or_right (member (take 3 s) frees) (member (take 3 s) serials) e) ∙ (unfold field_fault stamp_fault in rw e)))
 
-    pub stamp-free : member (part at 3 s) frees ≡ true → member (part at 3 s) serials ≡ false
-        → field_fault 38 free_fault (drop (at + 3) s) ≡ kind_fault (stamp frees serials) (drop at s)
-    stamp-free e f = sym (stamp-word (or_left (member (part at 3 s) frees) (member (part at 3 s) serials) e) ∙ (unfold field_fault stamp_fault free_fault in rw f))
+    pub stamp-free : member (take 3 s) frees ≡ true → member (take 3 s) serials ≡ false
+        → field_fault 38 free_fault (take (length s - 3) (drop 3 s)) ≡ kind_fault (stamp frees serials) s
+    stamp-free e f = rw (part-drop s 3) (sym (stamp-word (or_left (member (take 3 s) frees) (member (take 3 s) serials) e) ∙ (unfold field_fault stamp_fault free_fault in rw f)))
 
 -- ---- a word, then a number
 
-module _ (s : List ℕ) (at r : ℕ) (e : r ≡ field_fault 3 (word_fault (LLC ∷ NUL ∷ [])) (drop at s)) where
-  pub strategy-stop : (r ≡ 0 → ⊥) → r ≡ kind_fault strategy (drop at s)
+module _ (s : List ℕ) where
+  pub strategy-stop : (x : Refusal) → number_of x ≡ field_fault 3 (word_fault (LLC ∷ NUL ∷ [])) s → number_of x ≡ kind_fault strategy s
   unfolding kind_fault
-  strategy-stop n = rw (← e) (sym (⊳-stop r _ n))
+  strategy-stop x e = rw (← e) (sym (⊳-stop (number_of x) _ (refused x)))
 
-  pub strategy-room : at ≤ length s → r ≡ 0 → at + 3 ≤ length s
-  strategy-room h z =
-      let k = simp length-drop at (field-enough 3 (word_fault (LLC ∷ NUL ∷ [])) (drop at s) (sym e ∙ z)) in
-      omega arith
+  module _ (e : 0 ≡ field_fault 3 (word_fault (LLC ∷ NUL ∷ [])) s) where
+    pub strategy-room : 3 ≤ length s
+    strategy-room = field-enough 3 (word_fault (LLC ∷ NUL ∷ [])) s (sym e)
 
-  pub strategy-go : (q : ℕ) → r ≡ 0 → q ≡ field_fault 3 (count_fault 999) (drop (at + 3) s) → q ≡ kind_fault strategy (drop at s)
-  unfolding kind_fault
-  strategy-go q z f = rw (← e, ⊳-go r _ z, drop-drop 3 at s) f
+    pub strategy-go : (q : ℕ) → q ≡ field_fault 3 (count_fault 999) (take (length s - 3) (drop 3 s)) → q ≡ kind_fault strategy s
+    unfolding kind_fault
+    strategy-go q f = rw (part-drop s 3) at f ∙ rw (← e, ⊳-go 0 _ refl)
 
 -- ---- the kind of a line
 

@@ -1,7 +1,7 @@
 -- What the writer's runs need of the definitions: values one behind the other, bytes put behind bytes, digits, closing.
 --     value_room value-next     the value of the next line, and the others
 --     formed-bad formed-good    the values judged, one line on
---     placed-next placed-byte copied   bytes put behind bytes
+--     placed-next placed-byte          bytes put behind bytes
 --     line-put lines-put ..     a line and the lines behind it put
 --     last-put digit-put        the last byte, or digit, put before the others
 --     closing-..                the closing put piece by piece
@@ -16,7 +16,6 @@ use lib.Dec.{eqb}
 use lib.ListN.{length, take, drop, set, length-append, length-take, length-drop, take-append-drop}
 use lib.Seq.{length-take-le, drop_at, drop-drop, drop-append-le, take-append-add, take-append_seam, take-set-le, set_split}
 use borrow.Author.Tests.{eq-eqb, ne_eqb}
-use borrow.Rule.Slice.PartMut.{put_mid}
 use Rattle.metafile.specs.Bytes.{part, sum}
 use Rattle.metafile.specs.Fields.{digits_of}
 use Rattle.metafile.specs.Lines.{Kind, Field, fixed, value, Line, lf, opened, lines_of, width, field_width, kind_fault, fault, size, first_of, others_of, put, left, write, formed, checksum, table}
@@ -103,13 +102,6 @@ placed-byte q x c h =
     let z : q + 0 ≡ q = omega arith in
     let more = put-more q 0 (x ∷ []) c (omega arith) (omega arith) in
     rw (placed-nothing q c, z) at more
-
--- bytes copied into the part of a buffer that starts at a place and is as long
-pub copied : (at : ℕ) (s b ys : List ℕ) → ys ≡ s → put_mid at (at + length s - at) b ys ≡ placed at s b
-unfolding placed
-copied at s b ys e =
-    let long : at + length s - at ≡ length s = omega arith in
-    rw (e, long, drop-drop (length s) at b)
 
 -- ---- a line, and the lines behind it
 

@@ -17,12 +17,16 @@ use Rattle.metafile.specs.Bytes.{require, starts}
 use Rattle.metafile.specs.Lines.{Field, fixed, value, Line, lf, opened, lines_of, width, field_width, fixed_fault, kind_fault, fault, size, run, checksum, table}
 use Rattle.table.specs.declared.Line.{Line as CodeLine}
 use Rattle.table.specs.Codes.{line_no, code_no, lines_from}
-use Rattle.table.proofs.Lines.{label-fits, label-long, width_is, width_small}
+use Rattle.table.proofs.Lines.{label-long, width_is}
 use Rattle.laws.proofs.First.{⊳-stop, ⊳-go}
 use Rattle.laws.proofs.Stages.{run-one as run-field}
 use Rattle.laws.proofs.Table.{field-long, run-split, run-enough, size-split}
 use Rattle.laws.proofs.Loops.{fixed-short, fixed-bad, fixed-good, part-drop}
-use Rattle.lines.specs.declared.reader.Taken.{Taken}
+use Rattle.std.specs.declared.result.Result.{Result}
+use Rattle.std.specs.declared.result.Result.TheVariants.{Ok, Err}
+use Rattle.metafile.specs.declared.refusal.Refusal.{Refusal}
+use Rattle.metafile.specs.declared.refusal.Refusal.TheVariants.{Title, Tape, MiniMark, Short, Differs, Form, Length, ShortId, KnownSerial, RowsFull, OverLimit, NotClean, NoRow, NoDependency, ZeroInMark, Open, Multichunk, NoRoom, NotRelations, Heading, Total, Circle, RowsOver64, BlockSum, BlockNumber, BlockUse}
+use Rattle.metafile.specs.Refusals.{number_of, fault_in}
 use Rattle.lines.specs.Parts.{field_no, Takes}
 
 -- ---- LF and mark
@@ -67,11 +71,44 @@ pub size-one : (f : Field) → size (f ∷ []) ≡ field_width f
 unfolding size
 size-one f = omega arith
 
-pub taken-fault : (f : Field) (at : ℕ) (s : List ℕ) (r : Taken) → Takes (f ∷ []) at s r → r.fault ≡ fault f (drop at s)
+pub taken-fault : (f : Field) (at : ℕ) (s : List ℕ) (r : Result ℕ Refusal) → Takes (f ∷ []) at s r → fault_in r ≡ fault f (drop at s)
 taken-fault f at s r e = e.first ∙ sym (run-one f (drop at s))
 
-pub taken-one : (f : Field) (at : ℕ) (s : List ℕ) (r : Taken) → r.fault ≡ fault f (drop at s) → r.at ≡ at + field_width f → Takes (f ∷ []) at s r
-taken-one f at s r e w = record { first = e ∙ run-one f (drop at s); behind = omega (arith, size-one f) }
+-- one field: taken, or refused
+pub taken-one : (f : Field) (at p : ℕ) (s : List ℕ) → 0 ≡ fault f (drop at s) → p ≡ at + field_width f → Takes (f ∷ []) at s (Ok p)
+taken-one f at p s e w = record { first = e ∙ run-one f (drop at s); behind = omega (arith, size-one f) }
+
+pub taken-not : (f : Field) (at : ℕ) (s : List ℕ) (x : Refusal) → number_of x ≡ fault f (drop at s) → Takes (f ∷ []) at s (Err x)
+taken-not f at s x e = record { first = e ∙ run-one f (drop at s); behind = tt }
+
+-- a refusal has a number
+pub refused : (x : Refusal) → number_of x ≡ 0 → ⊥
+refused Title e = absurd (omega (arith, e))
+refused Tape e = absurd (omega (arith, e))
+refused MiniMark e = absurd (omega (arith, e))
+refused Short e = absurd (omega (arith, e))
+refused Differs e = absurd (omega (arith, e))
+refused Form e = absurd (omega (arith, e))
+refused Length e = absurd (omega (arith, e))
+refused ShortId e = absurd (omega (arith, e))
+refused KnownSerial e = absurd (omega (arith, e))
+refused RowsFull e = absurd (omega (arith, e))
+refused OverLimit e = absurd (omega (arith, e))
+refused NotClean e = absurd (omega (arith, e))
+refused NoRow e = absurd (omega (arith, e))
+refused NoDependency e = absurd (omega (arith, e))
+refused ZeroInMark e = absurd (omega (arith, e))
+refused Open e = absurd (omega (arith, e))
+refused Multichunk e = absurd (omega (arith, e))
+refused NoRoom e = absurd (omega (arith, e))
+refused NotRelations e = absurd (omega (arith, e))
+refused Heading e = absurd (omega (arith, e))
+refused Total e = absurd (omega (arith, e))
+refused Circle e = absurd (omega (arith, e))
+refused RowsOver64 e = absurd (omega (arith, e))
+refused BlockSum e = absurd (omega (arith, e))
+refused BlockNumber e = absurd (omega (arith, e))
+refused BlockUse e = absurd (omega (arith, e))
 
 -- ---- the fields of a line
 
@@ -87,7 +124,7 @@ pub field_end : (i : ℕ) → field_no i 2 ≡ lf
 unfolding field_no opened
 field_end i = refl
 
-pub value-fault : (i at : ℕ) (s : List ℕ) (r : Taken) → Takes (field_no i 1 ∷ []) at s r → r.fault ≡ kind_fault (line_no i).kind (drop at s)
+pub value-fault : (i at : ℕ) (s : List ℕ) (r : Result ℕ Refusal) → Takes (field_no i 1 ∷ []) at s r → fault_in r ≡ kind_fault (line_no i).kind (drop at s)
 unfolding field_no opened fault
 value-fault i at s r e = taken-fault (field_no i 1) at s r e
 
@@ -96,28 +133,37 @@ unfolding field_no opened size field_width
 value-wide i = omega arith
 
 -- a field of line i, as the code reads it
-module _ (i p at : ℕ) (s : List ℕ) (r : Taken) where
-  pub label-taken : p ≡ 0 → r.fault ≡ fault (fixed (line_no i).label) (drop at s) → r.at ≡ at + length (line_no i).label → Takes (field_no i p ∷ []) at s r
+module _ (i p at q : ℕ) (s : List ℕ) where
+  pub label-taken : p ≡ 0 → 0 ≡ fault (fixed (line_no i).label) (drop at s) → q ≡ at + length (line_no i).label → Takes (field_no i p ∷ []) at s (Ok q)
   unfolding field_width
-  label-taken e f w = rw (e, field-label i) (taken-one (fixed (line_no i).label) at s r f w)
+  label-taken e f w = rw (e, field-label i) (taken-one (fixed (line_no i).label) at q s f w)
 
-  pub value_taken : p ≡ 1 → r.fault ≡ kind_fault (line_no i).kind (drop at s) → r.at ≡ at + width (line_no i).kind → Takes (field_no i p ∷ []) at s r
+  pub value_taken : p ≡ 1 → 0 ≡ kind_fault (line_no i).kind (drop at s) → q ≡ at + width (line_no i).kind → Takes (field_no i p ∷ []) at s (Ok q)
   unfolding field_width fault
-  value_taken e f w = rw (e, field-value i) (taken-one (value (line_no i).kind) at s r f w)
+  value_taken e f w = rw (e, field-value i) (taken-one (value (line_no i).kind) at q s f w)
 
-  pub end-taken : (p ≡ 0 → ⊥) → (p ≡ 1 → ⊥) → p < 3 → r.fault ≡ fault lf (drop at s) → r.at ≡ at + 1 → Takes (field_no i p ∷ []) at s r
+  pub end-taken : (p ≡ 0 → ⊥) → (p ≡ 1 → ⊥) → p < 3 → 0 ≡ fault lf (drop at s) → q ≡ at + 1 → Takes (field_no i p ∷ []) at s (Ok q)
   unfolding field_width lf
   end-taken a b h f w =
       let e : p ≡ 2 = omega arith in
-      rw (e, field_end i) (taken-one lf at s r f w)
+      rw (e, field_end i) (taken-one lf at q s f w)
+
+module _ (i p at : ℕ) (s : List ℕ) (x : Refusal) where
+  pub label-refused : p ≡ 0 → number_of x ≡ fault (fixed (line_no i).label) (drop at s) → Takes (field_no i p ∷ []) at s (Err x)
+  label-refused e f = rw (e, field-label i) (taken-not (fixed (line_no i).label) at s x f)
+
+  pub value-refused : p ≡ 1 → number_of x ≡ kind_fault (line_no i).kind (drop at s) → Takes (field_no i p ∷ []) at s (Err x)
+  unfolding fault
+  value-refused e f = rw (e, field-value i) (taken-not (value (line_no i).kind) at s x f)
+
+  pub end-refused : (p ≡ 0 → ⊥) → (p ≡ 1 → ⊥) → p < 3 → number_of x ≡ fault lf (drop at s) → Takes (field_no i p ∷ []) at s (Err x)
+  end-refused a b h f =
+      let e : p ≡ 2 = omega arith in
+      rw (e, field_end i) (taken-not lf at s x f)
 
 -- ---- the bytes of a line
 
 module _ (i : ℕ) (h : i < 24) where
-  pub opened-small : size (opened (line_no i)) ≤ 768
-  unfolding size opened field_width
-  opened-small = omega (arith, label-fits i h, label-long i h, width_is i h, width_small i h)
-
   pub line-size : size (lines_of (line_no i ∷ [])) ≡ size (opened (line_no i)) + 1
   unfolding size lines_of opened lf field_width
   line-size = omega arith
@@ -135,50 +181,46 @@ module _ (i : ℕ) (h : i < 24) where
 
 -- ---- a stretch in two parts
 
-module _ (a b : List Field) (s : List ℕ) (at : ℕ) (r : Taken) (e : Takes a at s r) where
-  pub takes-stop : (r.fault ≡ 0 → ⊥) → r.fault ≡ run (a ++ b) (drop at s)
-  takes-stop n = rw (run-split a b (drop at s), ← e.first) (sym (⊳-stop r.fault _ n))
+module _ (a b : List Field) (s : List ℕ) (at : ℕ) where
+  -- the first part is refused
+  pub takes-stop : (x : Refusal) → Takes a at s (Err x) → number_of x ≡ run (a ++ b) (drop at s)
+  takes-stop x e = rw (run-split a b (drop at s), ← e.first) (sym (⊳-stop (number_of x) _ (refused x)))
 
-  pub takes-fits : at ≤ length s → r.fault ≡ 0 → r.at ≤ length s
-  takes-fits h z =
-      let k = simp length-drop at (run-enough a (drop at s) (sym e.first ∙ z)) in
-      omega (arith, e.behind)
+  pub takes_first : (x : Refusal) → Takes a at s (Err x) → Takes (a ++ b) at s (Err x)
+  takes_first x e = record { first = takes-stop x e; behind = tt }
 
-  pub takes-go : r.fault ≡ 0 → run b (drop r.at s) ≡ run (a ++ b) (drop at s)
-  takes-go z = rw (run-split a b (drop at s), ← e.first, ⊳-go r.fault _ z, drop-drop (size a) at s, ← e.behind)
+  module _ (p : ℕ) (e : Takes a at s (Ok p)) where
+    pub takes-fits : at ≤ length s → p ≤ length s
+    takes-fits h =
+        let k = simp length-drop at (run-enough a (drop at s) (sym e.first)) in
+        omega (arith, e.behind)
 
-  -- the second part is read behind the first
-  pub takes-both : (q : Taken) → r.fault ≡ 0 → Takes b r.at s q → Takes (a ++ b) at s q
-  takes-both q z f =
-      record { first = f.first ∙ takes-go z; behind = omega (arith, e.behind, f.behind, size-split a b) }
+    pub takes-go : run b (drop p s) ≡ run (a ++ b) (drop at s)
+    takes-go = rw (run-split a b (drop at s), ← e.first, ⊳-go 0 _ refl, drop-drop (size a) at s, ← e.behind)
 
-  -- the first part has a fault
-  pub takes_first : (q : Taken) → (r.fault ≡ 0 → ⊥) → q.fault ≡ r.fault → q.at ≡ at + size (a ++ b) → Takes (a ++ b) at s q
-  takes_first q n f w = record { first = f ∙ takes-stop n; behind = w }
+    -- the second part is read behind the first
+    pub takes-both : (q : Result ℕ Refusal) → Takes b p s q → Takes (a ++ b) at s q
+    takes-both (Ok q) f = record { first = f.first ∙ takes-go; behind = omega (arith, e.behind, f.behind, size-split a b) }
+    takes-both (Err x) f = record { first = f.first ∙ takes-go; behind = tt }
 
 -- ---- a line
 
-module _ (i : ℕ) (s : List ℕ) (at : ℕ) (r q : Taken) where
-  module _ (e : Takes (field_no i 0 ∷ []) at s r) where
-    pub opened-first : (r.fault ≡ 0 → ⊥) → q.fault ≡ r.fault → q.at ≡ at + size (opened (line_no i)) → Takes (opened (line_no i)) at s q
-    unfolding field_no opened
-    opened-first n f w = takes_first (field_no i 0 ∷ []) (field_no i 1 ∷ []) s at r e q n f w
+module _ (i : ℕ) (s : List ℕ) (at : ℕ) where
+  pub opened-first : (x : Refusal) → Takes (field_no i 0 ∷ []) at s (Err x) → Takes (opened (line_no i)) at s (Err x)
+  unfolding field_no opened
+  opened-first x e = takes_first (field_no i 0 ∷ []) (field_no i 1 ∷ []) s at x e
 
-    pub opened_both : r.fault ≡ 0 → Takes (field_no i 1 ∷ []) r.at s q → Takes (opened (line_no i)) at s q
-    unfolding field_no opened
-    opened_both z f = takes-both (field_no i 0 ∷ []) (field_no i 1 ∷ []) s at r e q z f
+  pub opened_both : (p : ℕ) (q : Result ℕ Refusal) → Takes (field_no i 0 ∷ []) at s (Ok p) → Takes (field_no i 1 ∷ []) p s q → Takes (opened (line_no i)) at s q
+  unfolding field_no opened
+  opened_both p q e f = takes-both (field_no i 0 ∷ []) (field_no i 1 ∷ []) s at p e q f
 
-  module _ (e : Takes (opened (line_no i)) at s r) where
-    line-stopped : (r.fault ≡ 0 → ⊥) → q.fault ≡ r.fault → q.at ≡ at + size (lines_of (line_no i ∷ [])) → Takes (lines_of (line_no i ∷ [])) at s q
-    unfolding lines_of
-    line-stopped n f w = takes_first (opened (line_no i)) (lf ∷ []) s at r e q n f w
+  pub line_first : (x : Refusal) → Takes (opened (line_no i)) at s (Err x) → Takes (lines_of (line_no i ∷ [])) at s (Err x)
+  unfolding lines_of
+  line_first x e = takes_first (opened (line_no i)) (lf ∷ []) s at x e
 
-    pub line_first : i < 24 → (r.fault ≡ 0 → ⊥) → q.fault ≡ r.fault → q.at ≡ r.at + 1 → Takes (lines_of (line_no i ∷ [])) at s q
-    line_first h n f w = line-stopped n f (omega (arith, e.behind, line-size i h))
-
-    pub line-both : r.fault ≡ 0 → Takes (field_no i 2 ∷ []) r.at s q → Takes (lines_of (line_no i ∷ [])) at s q
-    unfolding field_no opened lines_of
-    line-both z f = takes-both (opened (line_no i)) (lf ∷ []) s at r e q z f
+  pub line-both : (p : ℕ) (q : Result ℕ Refusal) → Takes (opened (line_no i)) at s (Ok p) → Takes (field_no i 2 ∷ []) p s q → Takes (lines_of (line_no i ∷ [])) at s q
+  unfolding field_no opened lines_of
+  line-both p q e f = takes-both (opened (line_no i)) (lf ∷ []) s at p e q f
 
 -- ---- lines of the table
 
@@ -209,7 +251,7 @@ module _ (s : List ℕ) (whole at i end : ℕ) (e : whole ≡ run (lines_of (lin
   unfolding lines_of run
   lines_end h = sym (e ∙ rw (lines_none i end h))
 
-  module _ (h : i < end) (l : end ≤ 24) (r : Taken) (f : Takes (lines_of (line_no i ∷ [])) at s r) where
+  module _ (h : i < end) (l : end ≤ 24) where
     others : List Field
     others = lines_of (lines_from (i + 1) (end - (i + 1)))
 
@@ -217,12 +259,9 @@ module _ (s : List ℕ) (whole at i end : ℕ) (e : whole ≡ run (lines_of (lin
     unfolding others
     here = rw (lines-first i end h l) (lines_of-cons (line_no i) (lines_from (i + 1) (end - (i + 1))))
 
-    pub lines-stop : (r.fault ≡ 0 → ⊥) → r.fault ≡ whole
-    lines-stop n = takes-stop (lines_of (line_no i ∷ [])) others s at r f n ∙ sym (e ∙ rw here)
+    pub lines-stop : (x : Refusal) → Takes (lines_of (line_no i ∷ [])) at s (Err x) → number_of x ≡ whole
+    lines-stop x f = takes-stop (lines_of (line_no i ∷ [])) others s at x f ∙ sym (e ∙ rw here)
 
-    pub lines-fits : at ≤ length s → r.fault ≡ 0 → r.at ≤ length s
-    lines-fits k z = takes-fits (lines_of (line_no i ∷ [])) others s at r f k z
-
-    pub lines_next : r.fault ≡ 0 → whole ≡ run (lines_of (lines_from (i + 1) (end - (i + 1)))) (drop r.at s)
+    pub lines_next : (p : ℕ) → Takes (lines_of (line_no i ∷ [])) at s (Ok p) → whole ≡ run (lines_of (lines_from (i + 1) (end - (i + 1)))) (drop p s)
     unfolding others
-    lines_next z = e ∙ rw here (sym (takes-go (lines_of (line_no i ∷ [])) others s at r f z))
+    lines_next p f = e ∙ rw here (sym (takes-go (lines_of (line_no i ∷ [])) others s at p f))

@@ -4,28 +4,31 @@
 --     head-spans integrity-spans   the bytes of the lines of a chunk's head, of its integrity data
 -- Assumes nothing.
 use Prim.Native.Nat.{ℕ, suc, ◌+◌, ◌<◌}
-use mathlib.Core.Bool.{true}
-use mathlib.Core.Path.{◌≡◌, refl, ◌∙◌}
+use mathlib.Core.Bool.{true, true≢false}
+use mathlib.Core.Path.{◌≡◌, refl, sym, ◌∙◌}
 use mathlib.Core.List.{List, [], ◌∷◌}
 use native.Mathlib.Omega.{arith}
-use borrow.Author.Tests.{eqb-true}
-use lib.Dec.{eqb}
 use lib.ListN.{drop}
 use Rattle.metafile.specs.Lines.{lines_of, size, run}
 use Rattle.table.specs.Codes.{line_no, codes, code_no, lines_from}
-use Rattle.lines.specs.declared.reader.Taken.{Taken}
+use Rattle.std.specs.declared.result.Result.{Result}
+use Rattle.std.specs.declared.result.Result.TheVariants.{Ok, Err}
+use Rattle.std.specs.Result.{is_ok}
+use Rattle.metafile.specs.declared.refusal.Refusal.{Refusal}
 use Rattle.lines.specs.Parts.{Takes}
 use Rattle.lines.proofs.Runs.{opened-size, line-size, takes-go, lines-one, lines_of-cons}
 
 pub bytes_of : (i : ℕ) → i < 24 → size (lines_of (line_no i ∷ [])) ≡ (code_no i).long + (code_no i).width + 1
 bytes_of i h = omega (arith, line-size i h, opened-size i h (code_no i) refl)
 
--- a line that the code finds without a fault, and n lines behind it
-pub clean_line : (i n p : ℕ) (s : List ℕ) (r : Taken) → i < 24 → Takes (lines_of (line_no i ∷ [])) p s r → eqb r.fault 0 ≡ true
-    → 0 ≡ run (lines_of (lines_from (i + 1) n)) (drop r.at s) → 0 ≡ run (lines_of (lines_from i (suc n))) (drop p s)
-clean_line i n p s r h e z next =
-    next
-    ∙ takes-go (lines_of (line_no i ∷ [])) (lines_of (lines_from (i + 1) n)) s p r e (eqb-true r.fault 0 z)
+-- a line that the code takes, and n lines behind it
+pub clean_line : (i n p q : ℕ) (s : List ℕ) (r : Result ℕ Refusal) → i < 24 → q ≡ p + size (lines_of (line_no i ∷ [])) → Takes (lines_of (line_no i ∷ [])) p s r → is_ok r ≡ true
+    → 0 ≡ run (lines_of (lines_from (i + 1) n)) (drop q s) → 0 ≡ run (lines_of (lines_from i (suc n))) (drop p s)
+clean_line i n p q s (Err x) h w e z next = absurd (true≢false (sym z))
+clean_line i n p q s (Ok b) h w e z next =
+    let same : q ≡ b = omega (arith, e.behind) in
+    rw same at next
+    ∙ takes-go (lines_of (line_no i ∷ [])) (lines_of (lines_from (i + 1) n)) s p b e
     ∙ rw (lines-one i n h, lines_of-cons (line_no i) (lines_from (i + 1) n))
 
 pub clean-none : (i p : ℕ) (s : List ℕ) → 0 ≡ run (lines_of (lines_from i 0)) (drop p s)

@@ -2,10 +2,12 @@
 // here, so that the compiler knows each line's label, kind, width and place; all of them come from the
 // table. Where no line has a fault there is none; else the lines are gone through one by one for the first.
 ghost use Rattle.std.specs.Prelude.{◌≡◌, ◌≤◌, length, drop};
+ghost use Rattle.metafile.specs.Refusals.{fault_in};
 ghost use Rattle.metafile.specs.Lines.{opened, lines_of, run};
 ghost use Rattle.table.specs.Codes.{line_no, lines_from};
 
 use crate::run::{lines_fault, read_line, read_opened};
+use metafile::Refusal;
 use table::{numbers, places};
 
 // How many lines stand before the dependency count, and in the integrity data.
@@ -14,63 +16,61 @@ const HEAD_LINES: usize = numbers::DEPENDENCY_COUNT - numbers::CHUNK_HEADER_LENG
 const INTEGRITY_LINES: usize = numbers::CHECKSUM - numbers::CHUNK_SERIAL + 1;
 
 // The lines from Chunk_Header_Length to Chunk_Dependency_Length.
-pub fn head_lines_fault(s: &[u8]) -> u8
-    ensures { result ≡ run (lines_of (lines_from 0 8)) s.now }
+pub fn head_lines_fault(s: &[u8]) -> Result<(), Refusal>
+    ensures { fault_in result ≡ run (lines_of (lines_from 0 8)) s.now }
 {
     if places::DEPENDENCY_COUNT_LINE <= s.len() {
         let a = read_line(s, 0, numbers::CHUNK_HEADER_LENGTH);
-        let b = read_line(s, a.at, numbers::SUB_FORMAT_ID);
-        let c = read_line(s, b.at, numbers::GENERIC_TYPE);
-        let d = read_line(s, c.at, numbers::TIME_SYNCH_TYPE);
-        let e = read_line(s, d.at, numbers::TIME_STANDARD);
-        let f = read_line(s, e.at, numbers::TIME_OFFSET);
-        let g = read_line(s, f.at, numbers::EVENT_SYNCH);
-        let h = read_line(s, g.at, numbers::DEPENDENCY_LENGTH);
-        if (a.fault == 0)
-            & (b.fault == 0)
-            & (c.fault == 0)
-            & (d.fault == 0)
-            & (e.fault == 0)
-            & (f.fault == 0)
-            & (g.fault == 0)
-            & (h.fault == 0)
+        let b = read_line(s, places::SUB_FORMAT_LINE, numbers::SUB_FORMAT_ID);
+        let c = read_line(s, places::GENERIC_TYPE_LINE, numbers::GENERIC_TYPE);
+        let d = read_line(s, places::SYNCH_TYPE_LINE, numbers::TIME_SYNCH_TYPE);
+        let e = read_line(s, places::TIME_STANDARD_LINE, numbers::TIME_STANDARD);
+        let f = read_line(s, places::TIME_OFFSET_LINE, numbers::TIME_OFFSET);
+        let g = read_line(s, places::EVENT_SYNCH_LINE, numbers::EVENT_SYNCH);
+        let h = read_line(
+            s,
+            places::DEPENDENCY_LENGTH_LINE,
+            numbers::DEPENDENCY_LENGTH,
+        );
+        if a.is_ok()
+            & b.is_ok()
+            & c.is_ok()
+            & d.is_ok()
+            & e.is_ok()
+            & f.is_ok()
+            & g.is_ok()
+            & h.is_ok()
         {
-            return 0;
+            return Ok(());
         }
     }
     lines_fault(s, 0, numbers::CHUNK_HEADER_LENGTH, HEAD_LINES)
 }
 
 // Chunk_Dependency_Count behind the head's lines, up to its digits.
-pub fn dependency_count_fault(s: &[u8]) -> u8
+pub fn dependency_count_fault(s: &[u8]) -> Result<(), Refusal>
     requires { 540 ≤ length s.now }
-    ensures { result ≡ run (opened (line_no 8)) (drop 540 s.now) }
+    ensures { fault_in result ≡ run (opened (line_no 8)) (drop 540 s.now) }
 {
-    let line = read_opened(s, places::DEPENDENCY_COUNT_LINE, numbers::DEPENDENCY_COUNT);
-    line.fault
+    read_opened(s, places::DEPENDENCY_COUNT_LINE, numbers::DEPENDENCY_COUNT)?;
+    Ok(())
 }
 
 // The integrity data at a place.
-pub fn integrity_fault(s: &[u8], at: usize) -> u8
+pub fn integrity_fault(s: &[u8], at: usize) -> Result<(), Refusal>
     requires { at ≤ length s.now }
-    ensures { result ≡ run (lines_of (lines_from 16 6)) (drop at s.now) }
+    ensures { fault_in result ≡ run (lines_of (lines_from 16 6)) (drop at s.now) }
 {
     let v = &s[at..];
     if places::INTEGRITY_BYTES <= v.len() {
         let a = read_line(v, 0, numbers::CHUNK_SERIAL);
-        let b = read_line(v, a.at, numbers::RECORDING_DATE);
-        let c = read_line(v, b.at, numbers::RECORDING_AGENT);
-        let d = read_line(v, c.at, numbers::WRITING_DATE);
-        let e = read_line(v, d.at, numbers::WRITING_AGENT);
-        let f = read_line(v, e.at, numbers::CHECKSUM);
-        if (a.fault == 0)
-            & (b.fault == 0)
-            & (c.fault == 0)
-            & (d.fault == 0)
-            & (e.fault == 0)
-            & (f.fault == 0)
-        {
-            return 0;
+        let b = read_line(v, places::RECORDING_DATE_LINE, numbers::RECORDING_DATE);
+        let c = read_line(v, places::RECORDING_AGENT_LINE, numbers::RECORDING_AGENT);
+        let d = read_line(v, places::WRITING_DATE_LINE, numbers::WRITING_DATE);
+        let e = read_line(v, places::WRITING_AGENT_LINE, numbers::WRITING_AGENT);
+        let f = read_line(v, places::CHECKSUM_LINE, numbers::CHECKSUM);
+        if a.is_ok() & b.is_ok() & c.is_ok() & d.is_ok() & e.is_ok() & f.is_ok() {
+            return Ok(());
         }
     }
     lines_fault(s, at, numbers::CHUNK_SERIAL, INTEGRITY_LINES)

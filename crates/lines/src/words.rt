@@ -29,21 +29,16 @@ pub const SLV: usize = 8;
 
 pub const MAS: usize = 9;
 
-fn wide(x: u8) -> u32
-    ensures { (result ≡ x) × (result < 256) }
-{
-    x as u32
-}
-
 // Three bytes as a number.
 fn three(b: &[u8]) -> u32
     requires { length b.now ≡ 3 }
     ensures { Three b.now result }
 {
-    wide(b[0]) + wide(b[1]) * 256 + wide(b[2]) * 65536
+    u32::from(b[0]) + u32::from(b[1]) * 256 + u32::from(b[2]) * 65536
 }
 
 // The same word: by their numbers, which the machine compares at once.
+// by hand: == of the two slices takes 1.25 to 1.5 times as long
 fn same_word(a: &[u8], b: &[u8]) -> bool
     requires { (length a.now ≡ 3) × (length b.now ≡ 3) }
     ensures { result ≡ same a.now b.now }

@@ -29,16 +29,12 @@ pub fn values_formed(first: usize, n: usize, values: &[u8]) -> bool
     requires { (first + n ≤ 24) × (length values.now ≡ values_size (lines_from first n)) }
     ensures { result ≡ formed (lines_of (lines_from first n)) (chopped (lines_from first n) values.now) }
 {
-    let end = first + n;
-    let mut v: usize = 0;
-    let mut i = first;
-    while i < end {
-        let value = read_field(values, v, i, VALUE);
-        if value.fault != 0 {
+    let mut v = 0;
+    for i in first..first + n {
+        let Ok(next) = read_field(values, v, i, VALUE) else {
             return false;
-        }
-        v = value.at;
-        i += 1;
+        };
+        v = next;
     }
     true
 }
@@ -58,12 +54,10 @@ pub fn put_number(buffer: &mut [u8], at: usize, n: usize, x: u64) -> usize
     requires { at + n ≤ length buffer.old }
     ensures { (result ≡ at + n) × (buffer.new ≡ placed at (digits_of n x) buffer.old) }
 {
-    let mut k = n;
     let mut rest = x;
-    while 0 < k {
-        k -= 1;
-        buffer[at + k] = 48 + (rest % 10) as u8;
-        rest = rest / 10;
+    for k in (0..n).rev() {
+        buffer[at + k] = b'0' + (rest % 10) as u8;
+        rest /= 10;
     }
     at + n
 }
@@ -85,14 +79,11 @@ pub fn put_lines(buffer: &mut [u8], at: usize, first: usize, n: usize, values: &
     requires { (first + n ≤ 24) × (length values.now ≡ values_size (lines_from first n)) × (at + size (lines_of (lines_from first n)) ≤ length buffer.old) }
     ensures { (result ≡ at + size (lines_of (lines_from first n))) × (buffer.new ≡ placed at (write (lines_of (lines_from first n)) (chopped (lines_from first n) values.now)) buffer.old) }
 {
-    let end = first + n;
     let mut p = at;
-    let mut v: usize = 0;
-    let mut i = first;
-    while i < end {
+    let mut v = 0;
+    for i in first..first + n {
         p = put_line(buffer, p, i, values, v);
         v += value_bytes(i);
-        i += 1;
     }
     p
 }
@@ -107,7 +98,7 @@ pub fn put_closing(buffer: &mut [u8], from: usize, at: usize, mark: &[u8], value
     let label = put_lines(buffer, lines, numbers::CHUNK_SERIAL, BEFORE_SUM, values);
     let digits = table::put_label(buffer, label, numbers::CHECKSUM);
     let sum = sums::word_sum(&buffer[from..digits]);
-    let end = put_number(buffer, digits, places::SUM, sum as u64);
+    let end = put_number(buffer, digits, places::SUM, u64::from(sum));
     buffer[end] = 10;
     put_bytes(buffer, end + 1, mark)
 }

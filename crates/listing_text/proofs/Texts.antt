@@ -16,7 +16,6 @@ use lib.Seq.{take-suc, length-take-le}
 use borrow.Author.Tests.{lt-ltb, le-ltb}
 use Rattle.metafile.specs.declared.Row.{Row}
 use Rattle.metafile.specs.declared.ReadAnswer.{ReadAnswer}
-use Rattle.metafile.specs.Bytes.{bytes}
 use Rattle.metafile.specs.Listing.{decimal, line_of, good_or_bad, row_line, row_lines, end_line, header_word, listed, listing}
 use Rattle.metafile.specs.Append.{no_row}
 use Rattle.metafile.specs.Calls.{read}

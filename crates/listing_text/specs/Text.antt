@@ -1,10 +1,8 @@
 -- What listing of this crate answers and leaves in the lent buffer, and pieces of its text. Assumes nothing.
 use Rattle.std.specs.Prelude.{ℕ, Bool, List, [], ◌∷◌, ◌++◌, ltb, length}
 use Rattle.metafile.specs.Bytes.{bytes}
-use Rattle.metafile.specs.Answers.{Answer, result, refused, refuse, over_limit, Outcome, outcome, placed, unless_refused}
+use Rattle.metafile.specs.Answers.{result, refuse, over_limit, Outcome, outcome, placed, unless_refused}
 use Rattle.metafile.specs.Listing.{decimal, line_of, header_word, listing}
-use Rattle.listing_text.specs.declared.ListingAnswer.{ListingAnswer}
-use Rattle.listing_text.specs.declared.ListingAnswer.TheVariants.{Written, Refused}
 
 -- four numbers, with a space behind each
 unfoldable pub numbers : ℕ → ℕ → ℕ → ℕ → List ℕ
@@ -13,10 +11,6 @@ numbers a b c d = (decimal a ++ bytes " ") ++ (decimal b ++ bytes " ") ++ (decim
 -- the header's word, of a file of no bytes or not; "the count of rows"
 unfoldable pub head_lines : Bool → Bool → ℕ → List ℕ
 head_lines none good count = line_of (bytes "header" ∷ header_word none good ∷ []) ++ line_of (bytes "chunks" ∷ decimal count ∷ [])
-
-unfoldable pub listing_answer : ListingAnswer → Answer
-listing_answer (Written n) = result (n ∷ [])
-listing_answer (Refused n) = refused n
 
 -- "18" is known before the first byte is written
 unfoldable pub listing_outcome : List ℕ → List ℕ → Outcome

@@ -9,20 +9,13 @@
 mod listed;
 
 ghost use Rattle.std.specs.Prelude.{◌≡◌, ◌≤◌, length};
-ghost use Rattle.metafile.specs.Answers.{outcome};
+ghost use Rattle.metafile.specs.Answers.{outcome, count_answer};
 ghost use Rattle.metafile.specs.Listing.{listing};
 ghost use Rattle.text.specs.Put.{Put};
-ghost use Rattle.listing_text.specs.Text.{listing_answer, listing_outcome};
+ghost use Rattle.listing_text.specs.Text.{listing_outcome};
 
-use metafile::{LIMIT, refusals};
+use metafile::{Refusal, over_limit};
 use read::local;
-
-#[derive(Clone, Copy)]
-pub enum ListingAnswer {
-    // the length of the text
-    Written(usize),
-    Refused(u8),
-}
 
 // "A program reads a file of up to 65,536 bytes"
 const MOST: usize = 65536;
@@ -33,25 +26,25 @@ fn put_listing(buffer: &mut [u8], input: &[u8]) -> usize
     ensures { Put (listing input.now) 0 buffer.old result buffer.new }
 {
     if MOST < input.len() {
-        return listed::put_end(buffer, 0, 0, refusals::OVER_LIMIT);
+        return listed::put_end(buffer, 0, 0, Refusal::OverLimit.number());
     }
     let table = local::read_table(input);
-    listed::put_listed(buffer, input.len() == 0, table)
+    listed::put_listed(buffer, input.is_empty(), &table)
 }
 
-// Puts the text at the start of the buffer. Tests 11, of the buffer alone, then 18: an input that is too long is no
-// refusal, but has a text of its own.
-pub fn listing(input: &[u8], buffer: &mut [u8]) -> ListingAnswer
-    ensures { outcome (listing_answer result) buffer.new ≡ listing_outcome input.now buffer.old }
+// Puts the text at the start of the buffer, and answers its length. Tests 11, of the buffer alone, then 18: an input that is
+// too long is no refusal, but has a text of its own.
+pub fn listing(input: &[u8], buffer: &mut [u8]) -> Result<usize, Refusal>
+    ensures { outcome (count_answer result) buffer.new ≡ listing_outcome input.now buffer.old }
 {
-    if LIMIT < buffer.len() {
-        return ListingAnswer::Refused(refusals::OVER_LIMIT);
+    if over_limit(&[buffer.len()]) {
+        return Err(Refusal::OverLimit);
     }
     let mut text = [0u8; 10240];
     let n = put_listing(&mut text, input);
     if buffer.len() < n {
-        return ListingAnswer::Refused(refusals::NO_ROOM);
+        return Err(Refusal::NoRoom);
     }
-    lines::put_bytes(buffer, 0, &text[..n]);
-    ListingAnswer::Written(n)
+    buffer[..n].copy_from_slice(&text[..n]);
+    Ok(n)
 }

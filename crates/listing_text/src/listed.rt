@@ -1,13 +1,13 @@
 // The lines of the listing, put word by word (crate text). Each function puts bytes at a place of a buffer and answers the
 // place behind them. A number has at most 20 digits, so a row's line has at most 128 bytes, whatever the row is.
-ghost use Rattle.std.specs.Prelude.{[], ◌∷◌, ◌++◌, ◌+◌, ◌*◌, ◌≤◌, length, take};
+ghost use Rattle.std.specs.Prelude.{[], ◌∷◌, ◌++◌, ◌+◌, ◌*◌, ◌≤◌, length};
 ghost use Rattle.metafile.specs.Listing.{good_or_bad, row_line, row_lines, end_line, header_word, listed};
 ghost use Rattle.text.specs.Put.{Put};
 ghost use Rattle.read.specs.Table.{table_rows, table_reading};
 ghost use Rattle.listing_text.specs.Text.{numbers, head_lines};
 
 use metafile::Row;
-use read::local::{ROWS, Table};
+use read::local::Table;
 use text::{put_decimal, put_word};
 
 // Whether a sum is good, and the byte behind it.
@@ -21,45 +21,35 @@ fn put_sum(buffer: &mut [u8], at: usize, good: bool, behind: u8) -> usize
     put_word(buffer, at, b"bad", behind)
 }
 
-// Four numbers, with a space behind each.
-fn put_numbers(
-    buffer: &mut [u8],
-    at: usize,
-    k: usize,
-    place: usize,
-    header: usize,
-    bytes: usize,
-) -> usize
+// The numbers of row k, with a space behind each.
+fn put_numbers(buffer: &mut [u8], at: usize, k: usize, row: &Row) -> usize
     requires { at + 84 ≤ length buffer.old }
-    ensures { Put (numbers k place header bytes) at buffer.old result buffer.new × (result ≤ at + 84) }
+    ensures { Put (numbers k row.now.place row.now.header row.now.bytes) at buffer.old result buffer.new × (result ≤ at + 84) }
 {
     let a = put_decimal(buffer, at, k, b' ');
-    let b = put_decimal(buffer, a, place, b' ');
-    let c = put_decimal(buffer, b, header, b' ');
-    put_decimal(buffer, c, bytes, b' ')
+    let b = put_decimal(buffer, a, row.place, b' ');
+    let c = put_decimal(buffer, b, row.header, b' ');
+    put_decimal(buffer, c, row.bytes, b' ')
 }
 
 // "for each its row from 0, place, header bytes, contents bytes, sum (good or bad), serial"
-fn put_row(buffer: &mut [u8], at: usize, k: usize, row: Row) -> usize
+fn put_row(buffer: &mut [u8], at: usize, k: usize, row: &Row) -> usize
     requires { at + 128 ≤ length buffer.old }
-    ensures { Put (row_line k row) at buffer.old result buffer.new × (result ≤ at + 128) }
+    ensures { Put (row_line k row.now) at buffer.old result buffer.new × (result ≤ at + 128) }
 {
-    let serial = row.serial;
-    let a = put_numbers(buffer, at, k, row.place, row.header, row.bytes);
+    let a = put_numbers(buffer, at, k, row);
     let b = put_sum(buffer, a, row.good, b' ');
-    put_word(buffer, b, &serial, b'\n')
+    put_word(buffer, b, &row.serial, b'\n')
 }
 
-// The lines of the first `count` rows.
-fn put_rows(buffer: &mut [u8], at: usize, rows: [Row; ROWS], count: usize) -> usize
-    requires { (count ≤ table_rows) × (at + 128 * count ≤ length buffer.old) }
-    ensures { Put (row_lines 0 (take count rows)) at buffer.old result buffer.new × (result ≤ at + 128 * count) }
+// The lines of all rows.
+fn put_rows(buffer: &mut [u8], at: usize, rows: &[Row]) -> usize
+    requires { at + 128 * length rows.now ≤ length buffer.old }
+    ensures { Put (row_lines 0 rows.now) at buffer.old result buffer.new × (result ≤ at + 128 * length rows.now) }
 {
     let mut p = at;
-    let mut i: usize = 0;
-    while i < count {
-        p = put_row(buffer, p, i, rows[i]);
-        i += 1;
+    for (i, row) in rows.iter().enumerate() {
+        p = put_row(buffer, p, i, row);
     }
     p
 }
@@ -97,13 +87,12 @@ fn put_head(buffer: &mut [u8], at: usize, none: bool, good: bool, count: usize) 
 }
 
 // The listing of a table, read from a file of no bytes or not, at the start of a buffer that has room for any.
-pub fn put_listed(buffer: &mut [u8], none: bool, table: Table) -> usize
-    requires { (table.answer.count ≤ table_rows) × (table.answer.count ≤ length table.rows) × (10240 ≤ length buffer.old) }
-    ensures { Put (listed none (table_reading table.rows table.answer)) 0 buffer.old result buffer.new }
+pub fn put_listed(buffer: &mut [u8], none: bool, table: &Table) -> usize
+    requires { (table.now.answer.count ≤ table_rows) × (table.now.answer.count ≤ length table.now.rows) × (10240 ≤ length buffer.old) }
+    ensures { Put (listed none (table_reading table.now.rows table.now.answer)) 0 buffer.old result buffer.new }
 {
-    let rows = table.rows;
     let answer = table.answer;
     let a = put_head(buffer, 0, none, answer.good, answer.count);
-    let b = put_rows(buffer, a, rows, answer.count);
+    let b = put_rows(buffer, a, &table.rows[..answer.count]);
     put_end(buffer, b, answer.stop, answer.number)
 }

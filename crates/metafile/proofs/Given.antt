@@ -1,6 +1,6 @@
--- A text that is given: filled byte by byte into a field of n spaces, and padded again it is the text padded. Over the
+-- A text that is given: filled into a field of n spaces, and padded again it is the text padded. Over the
 -- width n.
---     filled fill_none fill_more fill_end   the loop that fills a field
+--     filled fill_end   a field that is filled
 --     sub-format-given, recording-agent-given, writing-agent-given   what is handed in is what append sees
 -- Assumes nothing.
 use Prim.Native.Nat.{ℕ, suc, ◌+◌, ◌-◌, min, ◌≤◌, ◌<◌}
@@ -21,17 +21,6 @@ use Rattle.metafile.specs.Append.{sub_format_given, integrity_given}
 -- the first i bytes of a text in a field of n spaces
 unfoldable pub filled : ℕ → ℕ → List ℕ → List ℕ
 filled n i t = take i t ++ replicate (n - i) 32
-
-pub fill_none : (n : ℕ) (t : List ℕ) → replicate n 32 ≡ filled n 0 t
-unfolding filled
-fill_none n t = let z : n - 0 ≡ n = omega arith in rw z
-
-pub fill_more : (n i : ℕ) (t : List ℕ) → i < n → i < length t → set (filled n i t) i (get_or t i 0) ≡ filled n (i + 1) t
-unfolding filled
-fill_more n i t h l =
-    let one : n - i ≡ suc (n - (i + 1)) = omega arith in
-    rw (one, set_at (take i t) 32 (replicate (n - (i + 1)) 32) (get_or t i 0) i (length-take-le i t (omega arith)), add-one i, take-suc t i 0 l)
-    (sym (append_assoc (take i t) (get_or t i 0 ∷ []) (replicate (n - suc i) 32)))
 
 short-end : (n : ℕ) (t : List ℕ) → length t ≤ n → filled n (length t) t ≡ take n (padded n t)
 unfolding filled padded

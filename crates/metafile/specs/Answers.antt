@@ -1,21 +1,15 @@
 -- What the calls answer, by this paper's number and values, and refusals by tests in their order. Assumes nothing.
 use Rattle.std.specs.Prelude.{ℕ, ◌+◌, ◌^◌, Bool, false, cond, ◌||◌, List, [], ◌∷◌, ◌++◌, ltb, length, take, drop}
-use Rattle.metafile.specs.declared.BeginAnswer.{BeginAnswer}
-use Rattle.metafile.specs.declared.BeginAnswer.TheVariants.{Written, Refused as BeginRefused}
-use Rattle.metafile.specs.declared.ParentAnswer.{ParentAnswer}
-use Rattle.metafile.specs.declared.ParentAnswer.TheVariants.{Found, Missing, Refused as ParentRefused}
-use Rattle.metafile.specs.declared.AppendAnswer.{AppendAnswer}
-use Rattle.metafile.specs.declared.AppendAnswer.TheVariants.{Ends, Refused as AppendRefused}
-use Rattle.metafile.specs.declared.GatherAnswer.{GatherAnswer}
-use Rattle.metafile.specs.declared.GatherAnswer.TheVariants.{Joined, Refused as GatherRefused}
-use Rattle.metafile.specs.declared.RelationsWriteAnswer.{RelationsWriteAnswer}
-use Rattle.metafile.specs.declared.RelationsWriteAnswer.TheVariants.{Written as RelationsWritten, Refused as RelationsWriteRefused}
-use Rattle.metafile.specs.declared.RelationsCheckAnswer.{RelationsCheckAnswer}
-use Rattle.metafile.specs.declared.RelationsCheckAnswer.TheVariants.{Checked, Refused as RelationsCheckRefused}
-use Rattle.metafile.specs.declared.RelationsLatestAnswer.{RelationsLatestAnswer}
-use Rattle.metafile.specs.declared.RelationsLatestAnswer.TheVariants.{Checked as LatestChecked, Refused as RelationsLatestRefused}
-use Rattle.metafile.specs.declared.AncestorsAnswer.{AncestorsAnswer}
-use Rattle.metafile.specs.declared.AncestorsAnswer.TheVariants.{Reached, Refused as AncestorsRefused}
+use Rattle.std.specs.declared.option.Option.{Option}
+use Rattle.std.specs.declared.option.Option.TheVariants.{Some, None}
+use Rattle.std.specs.declared.result.Result.{Result}
+use Rattle.std.specs.declared.result.Result.TheVariants.{Ok, Err}
+use Rattle.metafile.specs.declared.refusal.Refusal.{Refusal}
+use Rattle.metafile.specs.declared.ParentRow.{ParentRow}
+use Rattle.metafile.specs.declared.Ends.{Ends}
+use Rattle.metafile.specs.declared.CheckedRow.{CheckedRow}
+use Rattle.metafile.specs.declared.Reached.{Reached}
+use Rattle.metafile.specs.Refusals.{number_of}
 use Rattle.metafile.specs.Bytes.{choose}
 
 -- an accepted call's values, in the order of the paper, or one refusal number
@@ -27,44 +21,31 @@ pub data Answer : Type 0 where
 unfoldable pub flag : Bool → ℕ
 flag b = cond b 1 0
 
-unfoldable pub begin_answer : BeginAnswer → Answer
-begin_answer (Written length') = result (length' ∷ [])
-begin_answer (BeginRefused n) = refused n
+-- how many bytes or entries were written
+unfoldable pub count_answer : Result ℕ Refusal → Answer
+count_answer (Ok n) = result (n ∷ [])
+count_answer (Err r) = refused (number_of r)
 
 -- "the row with that serial and whether the sub-formats agree, or missing"
-unfoldable pub parent_answer : ParentAnswer → Answer
-parent_answer (Found row agree) = result (row ∷ flag agree ∷ [])
-parent_answer Missing = result []
-parent_answer (ParentRefused n) = refused n
+unfoldable pub parent_answer : Result (Option ParentRow) Refusal → Answer
+parent_answer (Ok (Some p)) = result (p.row ∷ flag p.agree ∷ [])
+parent_answer (Ok None) = result []
+parent_answer (Err r) = refused (number_of r)
 
 -- "The answer is the three ends."
-unfoldable pub append_answer : AppendAnswer → Answer
-append_answer (Ends e₁ e₂ e₃) = result (e₁ ∷ e₂ ∷ e₃ ∷ [])
-append_answer (AppendRefused n) = refused n
-
-unfoldable pub gather_answer : GatherAnswer → Answer
-gather_answer (Joined length') = result (length' ∷ [])
-gather_answer (GatherRefused n) = refused n
-
--- the length of the text
-unfoldable pub relations_write_answer : RelationsWriteAnswer → Answer
-relations_write_answer (RelationsWritten length') = result (length' ∷ [])
-relations_write_answer (RelationsWriteRefused n) = refused n
-
--- the number of verdicts
-unfoldable pub relations_check_answer : RelationsCheckAnswer → Answer
-relations_check_answer (Checked count) = result (count ∷ [])
-relations_check_answer (RelationsCheckRefused n) = refused n
+unfoldable pub append_answer : Result Ends Refusal → Answer
+append_answer (Ok e) = result (e.first ∷ e.second ∷ e.third ∷ [])
+append_answer (Err r) = refused (number_of r)
 
 -- the number of verdicts, and the row
-unfoldable pub relations_latest_answer : RelationsLatestAnswer → Answer
-relations_latest_answer (LatestChecked count row) = result (count ∷ row ∷ [])
-relations_latest_answer (RelationsLatestRefused n) = refused n
+unfoldable pub checked_answer : Result CheckedRow Refusal → Answer
+checked_answer (Ok c) = result (c.count ∷ c.row ∷ [])
+checked_answer (Err r) = refused (number_of r)
 
 -- how many rows are listed, and how many dependencies name no row
-unfoldable pub ancestors_answer : AncestorsAnswer → Answer
-ancestors_answer (Reached count missing) = result (count ∷ missing ∷ [])
-ancestors_answer (AncestorsRefused n) = refused n
+unfoldable pub ancestors_answer : Result Reached Refusal → Answer
+ancestors_answer (Ok a) = result (a.count ∷ a.missing ∷ [])
+ancestors_answer (Err r) = refused (number_of r)
 
 -- ---- refusals
 

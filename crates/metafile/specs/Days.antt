@@ -1,7 +1,8 @@
 -- Dates as day numbers: "Reading a date shall also give its day number, where 1 January of year 1 is 1." Assumes nothing.
 use Rattle.std.specs.Prelude.{ℕ, zero, suc, ◌+◌, ◌-◌, Bool, cond, ◌&&◌, ◌≡◌, List, leb, ltb}
+use Rattle.std.specs.declared.option.Option.{Option}
+use Rattle.std.specs.declared.option.Option.TheVariants.{Some, None}
 use Rattle.metafile.specs.declared.Day.{Day}
-use Rattle.metafile.specs.declared.Day.TheVariants.{On, NoDate}
 use Rattle.metafile.specs.Bytes.{part}
 use Rattle.metafile.specs.Fields.{leap, month_days, year_of, month_of, day_of, is_date, is_serial}
 
@@ -55,26 +56,26 @@ unfoldable pub day_number : List ℕ → ℕ
 day_number v = day_on (dated v)
 
 unfoldable pub day_in : List ℕ → Day
-day_in v = On (year_of v) (month_of v) (day_of v)
+day_in v = record { year = year_of v; month = month_of v; day = day_of v }
 
 -- what reading a date gives, and reading a serial number, by its date: the day, or that there is none
-unfoldable pub day_read : List ℕ → Day
-day_read v = cond (is_date v) (day_in v) NoDate
+unfoldable pub day_read : List ℕ → Option Day
+day_read v = cond (is_date v) (Some (day_in v)) None
 
-unfoldable pub serial_read : List ℕ → Day
-serial_read v = cond (is_serial v) (day_in (part 1 8 v)) NoDate
+unfoldable pub serial_read : List ℕ → Option Day
+serial_read v = cond (is_serial v) (Some (day_in (part 1 8 v))) None
 
 -- a day that reading some bytes gave
-pub record Read (day : Day) : Type 0 where
+pub record Read (day : Option Day) : Type 0 where
   pub of : List ℕ
   pub is : day ≡ day_read of
 
 -- its number by 01: none, or "6 field out of form or range"
-unfoldable pub day_fault : Day → ℕ
-day_fault (On y m d) = 0
-day_fault NoDate = 6
+unfoldable pub day_fault : Option Day → ℕ
+day_fault (Some day) = 0
+day_fault None = 6
 
 -- its value: the day number; 0, before every day, where there is no date
-unfoldable pub day_value_of : Day → ℕ
-day_value_of (On y m d) = day_on (civil y m d)
-day_value_of NoDate = 0
+unfoldable pub day_value_of : Option Day → ℕ
+day_value_of (Some d) = day_on (civil d.year d.month d.day)
+day_value_of None = 0

@@ -8,6 +8,7 @@
 --     Multi      the contents of a MultiChunk
 --     Chunk      one chunk, read from its own place, and its row
 --     Reading    rows, stop, header sum, number; clean; rows enough
+--     Refusals   the refusals by their numbers
 --     Answers    what the calls answer, by number and values; tests in order
 --     Begin      begin
 --     Description  the chunk description's methods
@@ -29,6 +30,7 @@ pub mod Header
 pub mod Multi
 pub mod Chunk
 pub mod Reading
+pub mod Refusals
 pub mod Answers
 pub mod Begin
 pub mod Description

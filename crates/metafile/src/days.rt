@@ -1,17 +1,18 @@
 // The fault of what reading a date gives, for whoever asks only whether it is one.
 ghost use Rattle.std.specs.Prelude.{◌≡◌};
+ghost use Rattle.metafile.specs.Refusals.{fault_in};
 ghost use Rattle.metafile.specs.Days.{day_fault};
 
-use crate::{Day, refusals};
+use crate::{Day, Refusal};
 
 impl Day {
-    // The number with which a field is refused, 0 where it is a date.
-    pub fn fault(self) -> u8
-        ensures { result ≡ day_fault self }
+    // A field is refused where no date was read.
+    pub fn fault(read: Option<Day>) -> Result<(), Refusal>
+        ensures { fault_in result ≡ day_fault read }
     {
-        match self {
-            Day::On(_, _, _) => 0,
-            Day::NoDate => refusals::FORM,
+        match read {
+            Some(_) => Ok(()),
+            None => Err(Refusal::Form),
         }
     }
 }

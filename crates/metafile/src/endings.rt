@@ -1,4 +1,5 @@
 // How the end of a chunk was found: "counted, found, or by mini-chunks".
+// number: a field of the rows that C lends.
 
 // by the content length
 pub const COUNTED: u8 = 0;

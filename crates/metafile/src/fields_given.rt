@@ -1,31 +1,30 @@
 // The chunk description, built by chained methods that take it by value and hand it back. A text of any length is taken,
 // and its length kept, so that append can judge it. A serial number comes only with ALT, SLV and MAS.
-ghost use Rattle.std.specs.Prelude.{◌≡◌, min, replicate};
+ghost use Rattle.std.specs.Prelude.{◌≡◌, take, replicate};
+ghost use Rattle.metafile.specs.Fields.{padded};
 ghost use Rattle.metafile.specs.Lines.{ALT, SLV, MAS};
 ghost use Rattle.metafile.specs.Description.{text256, text32, nothing_given, with_sub_format, with_generic_type, with_synch_type, with_standard, with_offset, with_event, with_serial, with_recording, with_writing};
 
 use crate::{Description, Text32, Text256};
 
-fn lesser(a: usize, b: usize) -> usize
-    ensures { result ≡ min a b }
+// The first N bytes of a text, with spaces behind a shorter one.
+fn padded<const N: usize>(text: &[u8]) -> [u8; N]
+    ensures { result ≡ take N (padded N text.now) }
 {
-    if a < b { a } else { b }
+    let mut bytes = [b' '; N];
+    let long = text.len().min(N);
+    bytes[..long].copy_from_slice(&text[..long]);
+    bytes
 }
 
+// twin: a struct that C is given has no const parameter, so there is one type for each width.
 impl Text256 {
     // A text as it is given: its first 256 bytes, with spaces behind a shorter one, and its whole length.
     pub fn taken(text: &[u8]) -> Text256
         ensures { result ≡ text256 text.now }
     {
-        let mut bytes = [32u8; 256];
-        let long = lesser(text.len(), 256);
-        let mut i: usize = 0;
-        while i < long {
-            bytes[i] = text[i];
-            i += 1;
-        }
         Text256 {
-            bytes: bytes,
+            bytes: padded(text),
             given: text.len(),
         }
     }
@@ -36,15 +35,8 @@ impl Text32 {
     pub fn taken(text: &[u8]) -> Text32
         ensures { result ≡ text32 text.now }
     {
-        let mut bytes = [32u8; 32];
-        let long = lesser(text.len(), 32);
-        let mut i: usize = 0;
-        while i < long {
-            bytes[i] = text[i];
-            i += 1;
-        }
         Text32 {
-            bytes: bytes,
+            bytes: padded(text),
             given: text.len(),
         }
     }

@@ -4,7 +4,8 @@
 //     days          the fault of what reading a date gives
 //     endings       how the end of a chunk was found
 //     fields_given  the description's methods
-//     refusals      the refusal numbers
+//     limits        "a lent byte buffer over 2^30"
+//     refusal       what a refused call answers
 //     rows          the row of no chunk
 #![tactic(auto)]
 
@@ -12,18 +13,19 @@ pub mod clean;
 mod days;
 pub mod endings;
 mod fields_given;
-pub mod refusals;
+mod limits;
+mod refusal;
 mod rows;
 
-// "11 a lent byte buffer over 2^30": limit of specs/Answers
-pub const LIMIT: usize = 1073741824;
+pub use limits::{LIMIT, over_limit};
+pub use refusal::Refusal;
 
-// What reading a date gives, or a serial number by its date: the day, by year, month and day, or that there is none. The day's
-// number is fields::day_number.
-#[derive(Clone, Copy)]
-pub enum Day {
-    On(u16, u8, u8),
-    NoDate,
+// A day by year, month and day, which reading a date gives, or a serial number by its date. Its number is fields::day_number.
+#[derive(Clone, Copy, Debug, PartialEq, Eq)]
+pub struct Day {
+    pub year: u16,
+    pub month: u8,
+    pub day: u8,
 }
 
 // One chunk of the table. Places are counted from the file's first byte.
@@ -48,17 +50,12 @@ pub struct Row {
     // sum good or not
     pub good: bool,
     // how the end was found: one of endings
+    // number: C lends the table of rows, which may hold any bytes before it is written.
     pub ending: u8,
 }
 
-// What begin answers: the number of bytes written.
-#[derive(Clone, Copy)]
-pub enum BeginAnswer {
-    Written(usize),
-    Refused(u8),
-}
-
 // What read answers beside the rows. It has all four values for every number.
+// number: C is given this struct.
 #[repr(C)]
 #[derive(Clone, Copy)]
 pub struct ReadAnswer {
@@ -69,54 +66,33 @@ pub struct ReadAnswer {
     pub number: u8,
 }
 
-// What parent answers: the row, and whether the sub-formats agree.
-#[derive(Clone, Copy)]
-pub enum ParentAnswer {
-    Found(usize, bool),
-    Missing,
-    Refused(u8),
+// What parent answers where the row is there: its number, and whether the sub-formats agree.
+#[derive(Clone, Copy, Debug, PartialEq, Eq)]
+pub struct ParentRow {
+    pub row: usize,
+    pub agree: bool,
 }
 
 // What append answers: the three ends.
-#[derive(Clone, Copy)]
-pub enum AppendAnswer {
-    Ends(usize, usize, usize),
-    Refused(u8),
-}
-
-// What gather answers: the length of the joined data.
-#[derive(Clone, Copy)]
-pub enum GatherAnswer {
-    Joined(usize),
-    Refused(u8),
-}
-
-// What the writer of relations answers: the length of the text.
-#[derive(Clone, Copy)]
-pub enum RelationsWriteAnswer {
-    Written(usize),
-    Refused(u8),
-}
-
-// What the check of relations answers: the number of verdicts.
-#[derive(Clone, Copy)]
-pub enum RelationsCheckAnswer {
-    Checked(usize),
-    Refused(u8),
+#[derive(Clone, Copy, Debug, PartialEq, Eq)]
+pub struct Ends {
+    pub first: usize,
+    pub second: usize,
+    pub third: usize,
 }
 
 // What the check of relations answers where no row is named: the number of verdicts, and the row.
-#[derive(Clone, Copy)]
-pub enum RelationsLatestAnswer {
-    Checked(usize, usize),
-    Refused(u8),
+#[derive(Clone, Copy, Debug, PartialEq, Eq)]
+pub struct CheckedRow {
+    pub count: usize,
+    pub row: usize,
 }
 
 // What ancestors answers: how many rows are listed, and how many dependencies name no row.
-#[derive(Clone, Copy)]
-pub enum AncestorsAnswer {
-    Reached(usize, usize),
-    Refused(u8),
+#[derive(Clone, Copy, Debug, PartialEq, Eq)]
+pub struct Reached {
+    pub count: usize,
+    pub missing: usize,
 }
 
 // A text as it was given: its first bytes, and its whole length, which may be more than the field is wide.

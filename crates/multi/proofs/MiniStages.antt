@@ -3,31 +3,32 @@
 --     first-..    "Where the first must stand, fewer than 10 bytes left are 4, other bytes 8."
 --     mini-..     a mini-chunk: label, short ID, length and data
 --     data-..     its length and data
---     under-.. none-..   what it adds to the data under a short ID
+--     under-..    what it adds to the data under a short ID
 -- Assumes nothing.
 use Prim.Native.Nat.{ℕ, ◌+◌, ◌-◌, ◌≤◌, ◌<◌}
 use mathlib.Core.Bool.{Bool, true, false}
-use mathlib.Core.Path.{◌≡◌, sym, ap, ◌∙◌}
+use mathlib.Core.Path.{◌≡◌, sym, ◌∙◌}
 use mathlib.Core.List.{List, [], ◌∷◌}
 use native.Mathlib.Omega.{arith}
-use lib.ListN.{length, take, drop, length-take, length-drop}
-use lib.Seq.{drop-drop, length-take-le}
+use lib.ListN.{length, take, drop, length-drop}
+use lib.Seq.{drop-drop}
 use Rattle.metafile.specs.Bytes.{part, ◌⊳◌, require, same, member, starts}
 use Rattle.metafile.specs.Fields.{count_value}
 use Rattle.metafile.specs.Lines.{free, fixed, value, opened, field_width, field_fault, text_fault, kind_fault, fault, run, table, multi_header_length, short_id}
-use Rattle.metafile.specs.Answers.{placed}
 use Rattle.metafile.specs.Multi.{mini_label, mini_id, mini_data, mini_fault}
 use Rattle.table.specs.Codes.{line_no}
-use Rattle.laws.proofs.First.{test, ⊳-none, require-met, require-unmet}
+use Rattle.laws.proofs.First.{⊳-none, require-met, require-unmet}
 use Rattle.laws.proofs.Lists.{same-eq, starts-fits}
-use Rattle.laws.proofs.Loops.{fixed-good, placed-nothing}
+use Rattle.laws.proofs.Loops.{fixed-good}
 use Rattle.laws.proofs.Table.{field-short, field-long}
 use Rattle.laws.proofs.Distances.{lines}
 use Rattle.multi.specs.Part.{text_ids, first_mini, mini_rest, data_under}
-use Rattle.lines.specs.declared.reader.Taken.{Taken}
+use Rattle.std.specs.declared.result.Result.TheVariants.{Ok, Err}
+use Rattle.metafile.specs.declared.refusal.Refusal.{Refusal}
+use Rattle.metafile.specs.Refusals.{number_of}
 use Rattle.lines.specs.Parts.{field_no, Takes}
-use Rattle.lines.proofs.Runs.{run-one, takes-stop, takes-fits, takes-go}
-use Rattle.laws.proofs.Stages.{none, stop, go, unmet, met, part_at}
+use Rattle.lines.proofs.Runs.{refused, run-one, takes-stop, takes-fits, takes-go}
+use Rattle.laws.proofs.Stages.{stop, go, unmet, met, part_at}
 
 -- ---- where the first must stand
 
@@ -70,8 +71,8 @@ module _ (at : ℕ) (r : List ℕ) (s : starts mini_label (drop at r) ≡ true) 
       let f = field-short 10 text_fault (drop (at + 10) r) (simp length-drop (omega arith)) in
       stop _ _ 4 (sym (id-is ∙ f)) (λ z. omega arith) ∙ sym (mini-stages ids)
 
-  pub mini-stop : (ids : List (List ℕ)) {id : Taken} → Takes (field_no 15 1 ∷ []) (at + 10) r id → (id.fault ≡ 0 → ⊥) → id.fault ≡ mini_fault ids (drop at r)
-  mini-stop ids e n = stop _ _ _ e.first n ∙ sym (mini-stages ids)
+  pub mini-stop : (ids : List (List ℕ)) {x : Refusal} → Takes (field_no 15 1 ∷ []) (at + 10) r (Err x) → number_of x ≡ mini_fault ids (drop at r)
+  mini-stop ids {x = x} e = stop _ _ _ e.first (refused x) ∙ sym (mini-stages ids)
 
   -- x tells whether the short ID is declared
   module _ {x : Bool} (ids : List (List ℕ)) (q : x ≡ member (take (at + 20 - (at + 10)) (drop (at + 10) r)) ids) where
@@ -87,24 +88,24 @@ module _ (at : ℕ) (r : List ℕ) (s : starts mini_label (drop at r) ≡ true) 
         let z = id-is ∙ field-long 10 text_fault (drop (at + 10) r) (simp length-drop (omega arith)) ∙ texts _ (asked ∙ t) in
         go _ _ f z (met _ 8 _ f (declared ∙ t) p) ∙ sym (mini-stages ids)
 
-    pub mini-undeclared : x ≡ false → {id : Taken} → Takes (field_no 15 1 ∷ []) (at + 10) r id → id.fault ≡ 0 → 8 ≡ mini_fault ids (drop at r)
-    mini-undeclared t e z = go _ _ 8 (none e.first z) (unmet _ 7 _ (declared ∙ t)) ∙ sym (mini-stages ids)
+    pub mini-undeclared : x ≡ false → {p : ℕ} → Takes (field_no 15 1 ∷ []) (at + 10) r (Ok p) → 8 ≡ mini_fault ids (drop at r)
+    mini-undeclared t e = go _ _ 8 (sym e.first) (unmet _ 7 _ (declared ∙ t)) ∙ sym (mini-stages ids)
 
 -- ---- its length and data
 
-module _ {at : ℕ} {r : List ℕ} {long : Taken} (e : Takes (field_no 12 1 ∷ []) at r long) where
-  pub data-stop : (long.fault ≡ 0 → ⊥) → long.fault ≡ mini_rest (drop at r)
+module _ {at : ℕ} {r : List ℕ} where
+  pub data-stop : {x : Refusal} → Takes (field_no 12 1 ∷ []) at r (Err x) → number_of x ≡ mini_rest (drop at r)
   unfolding mini_rest field_no opened line_no table multi_header_length
-  data-stop n = takes-stop _ (value (free (count_value (part at 12 r))) ∷ []) _ _ _ e n
+  data-stop {x = x} e = takes-stop _ (value (free (count_value (part at 12 r))) ∷ []) _ _ x e
 
-  module _ (z : long.fault ≡ 0) where
-    pub data-fits : at ≤ length r → (at + 12 ≤ length r) × (long.at ≤ length r)
+  module _ {p : ℕ} (e : Takes (field_no 12 1 ∷ []) at r (Ok p)) where
+    pub data-fits : at ≤ length r → (at + 12 ≤ length r) × (p ≤ length r)
     unfolding lines field_no line_no table
-    data-fits h = let k = takes-fits _ [] _ _ _ e h z in (omega (arith, e.behind), k)
+    data-fits h = let k = takes-fits _ [] _ _ _ e h in (omega (arith, e.behind), k)
 
-    pub data-last : {n f : ℕ} → n ≡ count_value (part at 12 r) → f ≡ fault (value (free n)) (drop long.at r) → f ≡ mini_rest (drop at r)
+    pub data-last : {n f : ℕ} → n ≡ count_value (part at 12 r) → f ≡ fault (value (free n)) (drop p r) → f ≡ mini_rest (drop at r)
     unfolding mini_rest field_no opened line_no table multi_header_length
-    data-last q p = rw q at p ∙ run-one _ _ ∙ takes-go _ (value (free (count_value (part at 12 r))) ∷ []) _ _ _ e z
+    data-last q k = rw q at k ∙ run-one _ _ ∙ takes-go _ (value (free (count_value (part at 12 r))) ∷ []) _ _ _ e
 
 module _ (at : ℕ) (r : List ℕ) where
   pub data_is : {long : ℕ} → long ≡ count_value (part (at + 20) 12 r) → mini_data (drop at r) ≡ long
@@ -112,13 +113,6 @@ module _ (at : ℕ) (r : List ℕ) where
   data_is l = rw (l, part_at at 20 12 r)
 
 -- ---- what a mini-chunk adds to the data under a short ID
-
-pub under-most : (id t : List ℕ) → length (data_under id t) ≤ mini_data t
-unfolding data_under
-under-most id t =
-    test (same (mini_id t) id)
-    (λ q. rw q (omega (arith, length-take (mini_data t) (drop 32 t))))
-    (λ q. rw q (omega arith))
 
 -- x tells whether it is the mini-chunk's
 module _ (id : List ℕ) (at : ℕ) (r : List ℕ) {x : Bool} (e : x ≡ same (take (at + 20 - (at + 10)) (drop (at + 10) r)) id) where
@@ -128,23 +122,12 @@ module _ (id : List ℕ) (at : ℕ) (r : List ℕ) {x : Bool} (e : x ≡ same (t
       let ten : at + 20 - (at + 10) ≡ 10 = omega arith in
       rw (ten, ← drop-drop 10 at r) at (sym e)
 
-  module _ (t : x ≡ false) where
-    under_none : data_under id (drop at r) ≡ []
-    unfolding data_under
-    under_none = rw (told, t)
+  pub under-none : x ≡ false → data_under id (drop at r) ≡ []
+  unfolding data_under
+  under-none t = rw (told, t)
 
-    pub none-long : length (data_under id (drop at r)) ≡ 0
-    none-long = ap length under_none
-
-    pub none-put : (p : ℕ) (buffer : List ℕ) → buffer ≡ placed p (data_under id (drop at r)) buffer
-    none-put p buffer = sym (ap (λ v. placed p v buffer) under_none ∙ placed-nothing p buffer)
-
-  module _ (t : x ≡ true) {long : ℕ} (l : long ≡ count_value (part (at + 20) 12 r)) where
-    pub under-part : part (at + 32) long r ≡ data_under id (drop at r)
-    unfolding data_under
-    under-part = rw (told, t, data_is at r l, drop-drop 32 at r)
-
-    pub under-long : at + (32 + mini_data (drop at r)) ≤ length r → length (data_under id (drop at r)) ≡ long
-    under-long h =
-        ap length (sym under-part)
-        ∙ length-take-le long (drop (at + 32) r) (simp length-drop (omega (arith, data_is at r l)))
+  pub under-slice : x ≡ true → {m : ℕ} → m ≡ 32 + mini_data (drop at r) → data_under id (drop at r) ≡ take (at + m - (at + 32)) (drop (at + 32) r)
+  unfolding data_under
+  under-slice t {m = m} q =
+      let long : at + m - (at + 32) ≡ mini_data (drop at r) = omega arith in
+      rw (told, t, long, drop-drop 32 at r)

@@ -5,20 +5,21 @@
 --     Whole       at a place in contents that have no fault, what is left has none
 --     Joined      the loops that gather; joined-..: their steps
 -- Assumes nothing.
-use Prim.Native.Nat.{ℕ, zero, suc, ◌+◌, ◌≤◌}
+use Prim.Native.Nat.{ℕ, zero, suc, ◌+◌, ◌-◌, ◌≤◌}
 use mathlib.Core.Bool.{true, false}
 use mathlib.Core.Path.{◌≡◌, refl, sym, ap, ◌∙◌}
-use mathlib.Core.List.{List, [], ◌∷◌, ◌++◌, append_assoc, append-nil}
+use mathlib.Core.List.{List, [], ◌∷◌, ◌++◌, append_assoc}
 use native.Mathlib.Omega.{arith}
-use lib.ListN.{length, drop, length-append, length-drop}
+use lib.ListN.{length, drop, length-append, length-take, length-drop}
 use lib.Seq.{drop-drop}
 use Rattle.metafile.specs.Bytes.{◌⊳◌, same, starts}
 use Rattle.metafile.specs.Answers.{placed}
-use Rattle.metafile.specs.Multi.{mini_label, mini_data, mini_fault, minis_fault, minis_end, minis_joined, minis_place, declared_ids, multi_fault, multi_joined}
-use Rattle.laws.proofs.First.{untrue, ⊳-left, ⊳-right, ⊳-stop, ⊳-go}
+use Rattle.metafile.specs.Multi.{mini_label, mini_id, mini_data, mini_fault, minis_fault, minis_end, minis_joined, minis_place, declared_ids, multi_fault, multi_joined}
+use Rattle.std.specs.List.{concat}
+use Rattle.laws.proofs.First.{test, untrue, ⊳-left, ⊳-right, ⊳-stop, ⊳-go}
 use Rattle.laws.proofs.Loops.{placed-length, placed-nothing, placed-placed}
 use Rattle.chunk_laws.proofs.Multi.{multi-whole}
-use Rattle.multi.specs.Part.{data_under}
+use Rattle.multi.specs.Part.{Whole, data_under, each_under}
 use Rattle.chunk_laws.proofs.Minis.{mini-fits}
 use Rattle.multi.proofs.TypeWalk.{place-fits}
 
@@ -36,11 +37,11 @@ skip-end zero s h = omega arith
 skip-end (suc k) [] h = absurd (omega arith)
 skip-end (suc k) (x ∷ xs) h = omega (arith, skip-end k xs (omega arith))
 
-skip-joined : (id : List ℕ) (k : ℕ) (s : List ℕ) → k ≤ length s → minis_joined id k s ≡ minis_joined id 0 (drop k s)
-unfolding minis_joined
-skip-joined id zero s h = refl
-skip-joined id (suc k) [] h = absurd (omega arith)
-skip-joined id (suc k) (x ∷ xs) h = skip-joined id k xs (omega arith)
+skip-each : (id : List ℕ) (k : ℕ) (s : List ℕ) → k ≤ length s → each_under id k s ≡ each_under id 0 (drop k s)
+unfolding each_under
+skip-each id zero s h = refl
+skip-each id (suc k) [] h = absurd (omega arith)
+skip-each id (suc k) (x ∷ xs) h = skip-each id k xs (omega arith)
 
 -- ---- one mini-chunk
 
@@ -65,12 +66,12 @@ end-at [] e h = no_label e
 end-at (x ∷ xs) e h =
     rw (e, past_first (mini_data (x ∷ xs)) x xs, skip-end (31 + mini_data (x ∷ xs)) xs (omega arith)) (omega arith)
 
-joined_at : (id s : List ℕ) → starts mini_label s ≡ true → 32 + mini_data s ≤ length s
-    → minis_joined id 0 s ≡ data_under id s ++ minis_joined id 0 (drop (32 + mini_data s) s)
-unfolding minis_joined data_under
-joined_at id [] e h = no_label e
-joined_at id (x ∷ xs) e h =
-    rw (e, past_first (mini_data (x ∷ xs)) x xs, skip-joined id (31 + mini_data (x ∷ xs)) xs (omega arith))
+each_at : (id s : List ℕ) → starts mini_label s ≡ true → 32 + mini_data s ≤ length s
+    → each_under id 0 s ≡ data_under id s ∷ each_under id 0 (drop (32 + mini_data s) s)
+unfolding each_under
+each_at id [] e h = no_label e
+each_at id (x ∷ xs) e h =
+    rw (e, past_first (mini_data (x ∷ xs)) x xs, skip-each id (31 + mini_data (x ∷ xs)) xs (omega arith))
 
 fault-stops : (ids : List (List ℕ)) (s : List ℕ) (f : ℕ) → starts mini_label s ≡ true → f ≡ mini_fault ids s → (f ≡ 0 → ⊥) → minis_fault ids 0 s ≡ f
 unfolding minis_fault
@@ -88,10 +89,10 @@ unfolding minis_end
 end-end [] e = refl
 end-end (x ∷ xs) e = rw e
 
-joined_end : (id s : List ℕ) → starts mini_label s ≡ false → minis_joined id 0 s ≡ []
-unfolding minis_joined
-joined_end id [] e = refl
-joined_end id (x ∷ xs) e = rw e
+each_end : (id s : List ℕ) → starts mini_label s ≡ false → each_under id 0 s ≡ []
+unfolding each_under
+each_end id [] e = refl
+each_end id (x ∷ xs) e = rw e
 
 -- the first of mini-chunks that have no fault has none
 first-whole : (ids : List (List ℕ)) (s : List ℕ) → starts mini_label s ≡ true → minis_fault ids 0 s ≡ 0 → 32 + mini_data s ≤ length s
@@ -135,97 +136,115 @@ module _ {ids : List (List ℕ)} {r : List ℕ} {start at : ℕ} (w : Walk ids r
 
 -- ---- contents that have no fault
 
--- the mini-chunks from a place on
-pub record Whole (r : List ℕ) (at : ℕ) : Type 0 where
-  pub inside : at ≤ length r
-  pub no-fault : minis_fault (declared_ids r) 0 (drop at r) ≡ 0
-
 pub whole-begins : (r : List ℕ) → multi_fault r ≡ 0 → Whole r (minis_place r)
 whole-begins r e = record { inside = place-fits r e; no-fault = (multi-whole r e).in-minis }
 
-module _ {r : List ℕ} {at : ℕ} (w : Whole r at) (e : starts mini_label (drop at r) ≡ true) where
-  data-fits : 32 + mini_data (drop at r) ≤ length (drop at r)
-  data-fits = first-whole (declared_ids r) (drop at r) e w.no-fault
+-- all that the mini-chunks add is what the definition joins
+each-joined : (id : List ℕ) (k : ℕ) (s : List ℕ) → concat (each_under id k s) ≡ minis_joined id k s
+unfolding each_under minis_joined data_under
+each-joined id k [] = refl
+each-joined id zero (x ∷ xs) =
+    test (starts mini_label (x ∷ xs))
+    (λ e. rw (e, each-joined id (31 + mini_data (x ∷ xs)) xs))
+    (λ e. rw e)
+each-joined id (suc k) (x ∷ xs) = each-joined id k xs
 
-  pub whole-fits : at + (32 + mini_data (drop at r)) ≤ length r
-  whole-fits = omega (arith, w.inside, simp length-drop at data-fits)
+-- no more than there are behind the k bytes to pass over
+joined-most : (id : List ℕ) (k : ℕ) (s : List ℕ) → length (minis_joined id k s) ≤ length s - k
+unfolding minis_joined
+joined-most id k [] = omega arith
+joined-most id zero (x ∷ xs) =
+    let n = mini_data (x ∷ xs) in
+    let more = joined-most id (31 + n) xs in
+    let added = length-take n (drop 32 (x ∷ xs)) in
+    let behind = length-drop 32 (x ∷ xs) in
+    test (starts mini_label (x ∷ xs))
+    (λ e. test (same (mini_id (x ∷ xs)) id) (λ q. rw (e, q) (simp length-append (omega arith))) (λ q. rw (e, q) (omega arith)))
+    (λ e. rw e (omega arith))
+joined-most id (suc k) (x ∷ xs) = omega (arith, joined-most id k xs)
 
-  pub whole-next : Whole r (at + (32 + mini_data (drop at r)))
-  whole-next =
-      record {
-        inside = whole-fits;
-        no-fault = rw drop-drop at (⊳-right _ _ (sym (fault-at (declared_ids r) (drop at r) e data-fits) ∙ w.no-fault));
-      }
+pub multi-most : (id r : List ℕ) → length (multi_joined id r) ≤ length r
+unfolding multi_joined
+multi-most id r = omega (arith, joined-most id 0 (drop (minis_place r) r), length-drop (minis_place r) r)
 
-  -- what the mini-chunk adds, before what follows
-  joined-next : (id : List ℕ) → minis_joined id 0 (drop at r) ≡ data_under id (drop at r) ++ minis_joined id 0 (drop (at + (32 + mini_data (drop at r))) r)
-  joined-next id = joined_at id (drop at r) e data-fits ∙ rw drop-drop
+pub under-begins : (id r : List ℕ) → concat (each_under id 0 (drop (minis_place r) r)) ≡ multi_joined id r
+unfolding multi_joined
+under-begins id r = each-joined id 0 (drop (minis_place r) r)
 
--- the data under a short ID are what is joined so far, so many bytes, and what is to follow
-pub record Joined (id r : List ℕ) (at done : ℕ) : Type 0 where
+module _ {r : List ℕ} {at : ℕ} (w : Whole r at) where
+  module _ (e : starts mini_label (drop at r) ≡ true) where
+    data-fits : 32 + mini_data (drop at r) ≤ length (drop at r)
+    data-fits = first-whole (declared_ids r) (drop at r) e w.no-fault
+
+    pub whole-fits : at + (32 + mini_data (drop at r)) ≤ length r
+    whole-fits = omega (arith, w.inside, simp length-drop at data-fits)
+
+    pub whole-next : Whole r (at + (32 + mini_data (drop at r)))
+    whole-next =
+        record {
+          inside = whole-fits;
+          no-fault = rw drop-drop at (⊳-right _ _ (sym (fault-at (declared_ids r) (drop at r) e data-fits) ∙ w.no-fault));
+        }
+
+    pub under-next : (id : List ℕ) → each_under id 0 (drop at r) ≡ data_under id (drop at r) ∷ each_under id 0 (drop (at + (32 + mini_data (drop at r))) r)
+    under-next id = each_at id (drop at r) e data-fits ∙ rw drop-drop
+
+  pub under-end : (id : List ℕ) → starts mini_label (drop at r) ≡ false → each_under id 0 (drop at r) ≡ []
+  under-end id e = each_end id (drop at r) e
+
+-- ---- lists joined one after the other
+
+-- all is what is joined so far, so many bytes, and those left
+pub record Joined (all : List ℕ) (left : List (List ℕ)) (done : ℕ) : Type 0 where
   pub so_far : List ℕ
-  pub whole : multi_joined id r ≡ so_far ++ minis_joined id 0 (drop at r)
+  pub whole : all ≡ so_far ++ concat left
   pub long : length so_far ≡ done
 
-pub joined-begins : (id r : List ℕ) → Joined id r (minis_place r) 0
-unfolding multi_joined
-joined-begins id r = record { so_far = []; whole = refl; long = refl }
+pub joined-begins : {all : List ℕ} {left : List (List ℕ)} → concat left ≡ all → Joined all left 0
+joined-begins e = record { so_far = []; whole = sym e; long = refl }
 
-module _ {id r : List ℕ} {at done : ℕ} (j : Joined id r at done) where
-  module _ (w : Whole r at) (e : starts mini_label (drop at r) ≡ true) where
-    pub joined-goes : Joined id r (at + (32 + mini_data (drop at r))) (done + length (data_under id (drop at r)))
+module _ {all : List ℕ} {left : List (List ℕ)} {done : ℕ} (j : Joined all left done) where
+  module _ {d : List ℕ} {rest : List (List ℕ)} (e : left ≡ d ∷ rest) where
+    pub joined-goes : Joined all rest (done + length d)
     joined-goes =
         record {
-          so_far = j.so_far ++ data_under id (drop at r);
-          whole = j.whole ∙ rw (joined-next w e id, append_assoc);
+          so_far = j.so_far ++ d;
+          whole = j.whole ∙ rw (e, append_assoc);
           long = simp length-append (omega (arith, j.long));
         }
 
-    joined-room : done + length (data_under id (drop at r)) ≤ length (multi_joined id r)
-    joined-room = rw (j.whole, joined-next w e id) (simp length-append (omega (arith, j.long)))
-
-  joined-done : starts mini_label (drop at r) ≡ false → j.so_far ≡ multi_joined id r
-  joined-done e = sym (j.whole ∙ rw (joined_end id (drop at r) e) (append-nil j.so_far))
-
-  pub joined_length : starts mini_label (drop at r) ≡ false → done ≡ length (multi_joined id r)
-  joined_length e = sym j.long ∙ ap length (joined-done e)
+    pub joined-room : done + length d ≤ length all
+    joined-room = rw (j.whole, e) (simp length-append (omega (arith, j.long)))
 
 -- they are put into a buffer as they are joined
-pub record Put (id r before : List ℕ) (at done : ℕ) (buffer : List ℕ) : Type 0 where
-  pub joined : Joined id r at done
+pub record Put (all before : List ℕ) (left : List (List ℕ)) (done : ℕ) (buffer : List ℕ) : Type 0 where
+  pub joined : Joined all left done
   pub put : buffer ≡ placed 0 joined.so_far before
 
-pub put-begins : (id r before : List ℕ) → Put id r before (minis_place r) 0 before
+pub put-begins : {all before : List ℕ} {left : List (List ℕ)} → concat left ≡ all → Put all before left 0 before
 unfolding joined-begins
-put-begins id r before = record { joined = joined-begins id r; put = sym (placed-nothing 0 before) }
+put-begins {before = before} e = record { joined = joined-begins e; put = sym (placed-nothing 0 before) }
 
-module _ {id r before : List ℕ} {at done : ℕ} {buffer : List ℕ} (p : Put id r before at done buffer) where
-  pub put-long : length (multi_joined id r) ≤ length before → length buffer ≡ length before
+module _ {all before : List ℕ} {left : List (List ℕ)} {done : ℕ} {buffer : List ℕ} (p : Put all before left done buffer) where
+  pub put-long : length all ≤ length before → length buffer ≡ length before
   put-long h =
       ap length p.put
       ∙ placed-length 0 p.joined.so_far before (omega (arith, simp length-append at (ap length p.joined.whole)))
 
-  module _ (w : Whole r at) (e : starts mini_label (drop at r) ≡ true) (h : length (multi_joined id r) ≤ length before) where
-    pub put-room : done + length (data_under id (drop at r)) ≤ length buffer
-    put-room = omega (arith, put-long h, joined-room p.joined w e)
+  module _ {d : List ℕ} {rest : List (List ℕ)} (e : left ≡ d ∷ rest) (h : length all ≤ length before) where
+    pub put-room : done + length d ≤ length buffer
+    put-room = omega (arith, put-long h, joined-room p.joined e)
 
-    pub put-goes : Put id r before (at + (32 + mini_data (drop at r))) (done + length (data_under id (drop at r))) (placed done (data_under id (drop at r)) buffer)
+    pub put-goes : Put all before rest (done + length d) (placed done d buffer)
     unfolding joined-goes
     put-goes =
         let j = p.joined in
         let place : 0 + length j.so_far ≡ done = omega (arith, j.long) in
-        let room : 0 + length j.so_far + length (data_under id (drop at r)) ≤ length before = omega (arith, j.long, put-long h, put-room) in
+        let room : 0 + length j.so_far + length d ≤ length before = omega (arith, j.long, put-long h, put-room) in
         record {
-          joined = joined-goes j w e;
+          joined = joined-goes j e;
           put =
-              ap (λ k. placed k (data_under id (drop at r)) buffer) (sym place)
-              ∙ ap (placed (0 + length j.so_far) (data_under id (drop at r))) p.put
-              ∙ placed-placed 0 j.so_far (data_under id (drop at r)) before room;
+              ap (λ k. placed k d buffer) (sym place)
+              ∙ ap (placed (0 + length j.so_far) d) p.put
+              ∙ placed-placed 0 j.so_far d before room;
         }
-
-  module _ (e : starts mini_label (drop at r) ≡ false) where
-    pub put-length : done ≡ length (multi_joined id r)
-    put-length = joined_length p.joined e
-
-    pub put-done : buffer ≡ placed 0 (multi_joined id r) before
-    put-done = p.put ∙ ap (λ v. placed 0 v before) (joined-done p.joined e)

@@ -24,10 +24,13 @@ use Rattle.laws.proofs.First.{and_both, ⊳-left, ⊳-right, ⊳-assoc, require-
 use Rattle.laws.proofs.Table.{field-own, run_at}
 use Rattle.laws.proofs.Distances.{lines}
 use Rattle.multi.specs.Part.{head_fault, type_length_fault, type_names, type_rest}
-use Rattle.lines.specs.declared.reader.Taken.{Taken}
+use Rattle.std.specs.declared.result.Result.{Result}
+use Rattle.std.specs.declared.result.Result.TheVariants.{Ok, Err}
+use Rattle.metafile.specs.declared.refusal.Refusal.{Refusal}
+use Rattle.metafile.specs.Refusals.{number_of, fault_in}
 use Rattle.lines.specs.Parts.{field_no, Takes}
-use Rattle.lines.proofs.Runs.{run-one, field_end, takes-stop, takes-fits, takes-go, takes-both}
-use Rattle.laws.proofs.Stages.{none, stop, go, unmet, met, part_at, fits}
+use Rattle.lines.proofs.Runs.{refused, run-one, field_end, takes-stop, takes-fits, takes-go, takes-both}
+use Rattle.laws.proofs.Stages.{stop, go, unmet, met, part_at, fits}
 
 -- ---- the head
 
@@ -40,43 +43,43 @@ unfolding head_fault lines
 head-fits r e =
     fits (lf ∷ []) 1 64 r refl (fits multi_head 64 0 r size-head (omega arith) (⊳-left _ _ e)) (⊳-right _ _ (⊳-right _ _ e))
 
-module _ {r : List ℕ} {first : Taken} (a : Takes (lines_of (line_no 12 ∷ [])) 0 r first) where
-  pub head_first : (first.fault ≡ 0 → ⊥) → first.fault ≡ head_fault r
+module _ {r : List ℕ} where
+  pub head_first : {x : Refusal} → Takes (lines_of (line_no 12 ∷ [])) 0 r (Err x) → number_of x ≡ head_fault r
   unfolding head_fault multi_head line_no table
-  head_first n = stop _ _ _ (takes-stop _ (opened (line_no 13)) _ _ _ a n) n
+  head_first {x = x} a = stop _ _ _ (takes-stop _ (opened (line_no 13)) _ _ x a) (refused x)
 
-  module _ (z : first.fault ≡ 0) {second : Taken} (b : Takes (opened (line_no 13)) first.at r second) where
-    head-both : Takes multi_head 0 r second
+  module _ {p : ℕ} (a : Takes (lines_of (line_no 12 ∷ [])) 0 r (Ok p)) where
+    head-both : {q : Result ℕ Refusal} → Takes (opened (line_no 13)) p r q → Takes multi_head 0 r q
     unfolding multi_head line_no table
-    head-both = takes-both _ _ _ _ _ a second z b
+    head-both {q = q} b = takes-both _ _ _ _ p a q b
 
-    pub head-second : (second.fault ≡ 0 → ⊥) → second.fault ≡ head_fault r
+    pub head-second : {x : Refusal} → Takes (opened (line_no 13)) p r (Err x) → number_of x ≡ head_fault r
     unfolding head_fault
-    head-second n = stop _ _ _ head-both.first n
+    head-second {x = x} b = stop _ _ _ (head-both b).first (refused x)
 
-    head-place : second.at ≡ 64
-    head-place = omega (arith, head-both.behind, size-head)
+    module _ {q : ℕ} (b : Takes (opened (line_no 13)) p r (Ok q)) where
+      head-place : q ≡ 64
+      head-place = omega (arith, (head-both b).behind, size-head)
 
-    module _ (y : second.fault ≡ 0) where
-      pub head-inside : (64 ≤ length r) × (second.at ≤ length r)
+      pub head-inside : (64 ≤ length r) × (q ≤ length r)
       head-inside =
-          let h = takes-fits _ [] _ _ _ head-both (omega arith) y in
+          let h = takes-fits _ [] _ _ _ (head-both b) (omega arith) in
           (omega (arith, head-place), h)
 
       passed : (x : ℕ) → x ≡ require (leb 1 (types_of r) && leb (types_of r) 64) 7 ⊳ run (lf ∷ []) (drop 64 r) → x ≡ head_fault r
       unfolding head_fault
-      passed x p = go _ _ x (none head-both.first y) p
+      passed x k = go _ _ x (sym (head-both b).first) k
 
-      module _ {n : ℕ} (q : n ≡ types_of r) where
+      module _ {n : ℕ} (m : n ≡ types_of r) where
         pub head_few : n < 1 → 7 ≡ head_fault r
-        head_few h = passed 7 (unmet _ 6 _ (rw (← q, lt-leb 1 n h)))
+        head_few h = passed 7 (unmet _ 6 _ (rw (← m, lt-leb 1 n h)))
 
         pub head-many : 1 ≤ n → 64 < n → 7 ≡ head_fault r
-        head-many h k = passed 7 (unmet _ 6 _ (rw (← q, le-leb 1 n h, lt-leb n 64 k)))
+        head-many h k = passed 7 (unmet _ 6 _ (rw (← m, le-leb 1 n h, lt-leb n 64 k)))
 
-        pub head-last : 1 ≤ n → n ≤ 64 → {end : Taken} → Takes (field_no 13 2 ∷ []) second.at r end → end.fault ≡ head_fault r
+        pub head-last : 1 ≤ n → n ≤ 64 → {end : Result ℕ Refusal} → Takes (field_no 13 2 ∷ []) q r end → fault_in end ≡ head_fault r
         head-last h k e =
-            passed _ (met _ 7 _ _ (rw (← q, le-leb 1 n h, le-leb n 64 k)) (rw (field_end 13, head-place) at e.first))
+            passed _ (met _ 7 _ _ (rw (← m, le-leb 1 n h, le-leb n 64 k)) (rw (field_end 13, head-place) at e.first))
 
 -- ---- a type: its length
 
@@ -100,23 +103,24 @@ pub bytes-are : (at long : ℕ) (r : List ℕ) → long ≡ count_value (part (a
 unfolding type_bytes type_specific
 bytes-are at long r l = rw (long-is at long r l)
 
-module _ {at : ℕ} {r : List ℕ} {line : Taken} (e : Takes (opened (line_no 14)) at r line) where
-  pub length-fits : line.fault ≡ 0 → at ≤ length r → at + 34 ≤ length r
-  length-fits z h = omega (arith, takes-fits _ [] _ _ _ e h z, e.behind, size-14)
+module _ {at : ℕ} {r : List ℕ} where
+  pub length-stop : {x : Refusal} → Takes (opened (line_no 14)) at r (Err x) → (last : Bool) (announced : ℕ)
+      → number_of x ≡ type_length_fault last announced (at - 65) (drop at r)
+  unfolding type_length_fault line_no table
+  length-stop {x = x} e last announced = stop _ _ _ e.first (refused x)
 
-  pub length-bound : line.fault ≡ 0 → {long : ℕ} → long ≡ count_value (part (at + 22) 12 r) → long ≤ 999999999999
-  length-bound z l = rw (long-is at _ r l) (length-small (drop at r) (none e.first z))
+  module _ {p : ℕ} (e : Takes (opened (line_no 14)) at r (Ok p)) where
+    pub length-fits : at ≤ length r → at + 34 ≤ length r
+    length-fits h = omega (arith, takes-fits _ [] _ _ _ e h, e.behind, size-14)
 
-  module _ (last : Bool) (announced : ℕ) where
-    pub length-stop : (line.fault ≡ 0 → ⊥) → line.fault ≡ type_length_fault last announced (at - 65) (drop at r)
-    unfolding type_length_fault line_no table
-    length-stop n = stop _ _ _ e.first n
+    pub length-bound : {long : ℕ} → long ≡ count_value (part (at + 22) 12 r) → long ≤ 999999999999
+    length-bound l = rw (long-is at _ r l) (length-small (drop at r) (sym e.first))
 
-    module _ (z : line.fault ≡ 0) {long : ℕ} (l : long ≡ count_value (part (at + 22) 12 r)) where
+    module _ (last : Bool) (announced : ℕ) {long : ℕ} (l : long ≡ count_value (part (at + 22) 12 r)) where
       passes : (x : ℕ) → x ≡ require (leb 484 long) 7 ⊳ require (not last || eqb announced (multi_length_for (at - 65 + type_bytes (drop at r)))) 7
           → x ≡ type_length_fault last announced (at - 65) (drop at r)
       unfolding type_length_fault line_no table
-      passes x p = go _ _ x (none e.first z) (rw (long-is at long r l) at p)
+      passes x k = go _ _ x (sym e.first) (rw (long-is at long r l) at k)
 
       pub length-short : long < 484 → 7 ≡ type_length_fault last announced (at - 65) (drop at r)
       length-short h = passes 7 (unmet _ 6 _ (lt-leb 484 long h))
@@ -142,25 +146,26 @@ module _ {at : ℕ} {r : List ℕ} {line : Taken} (e : Takes (opened (line_no 14
 
 -- ---- a type: names
 
-module _ {at : ℕ} {s : List ℕ} {end : Taken} (e : Takes (field_no 14 2 ∷ []) at s end) where
-  pub names-end : (end.fault ≡ 0 → ⊥) → end.fault ≡ run type_names (drop at s)
+module _ {at : ℕ} {s : List ℕ} where
+  pub names-end : {x : Refusal} → Takes (field_no 14 2 ∷ []) at s (Err x) → number_of x ≡ run type_names (drop at s)
   unfolding type_names field_no opened line_no table
-  names-end n = takes-stop _ (lines_of (line_no 1 ∷ []) ++ opened (line_no 15)) _ _ _ e n
+  names-end {x = x} e = takes-stop _ (lines_of (line_no 1 ∷ []) ++ opened (line_no 15)) _ _ x e
 
-  module _ (z : end.fault ≡ 0) {name : Taken} (a : Takes (lines_of (line_no 1 ∷ [])) end.at s name) where
-    names-both : Takes ((field_no 14 2 ∷ []) ++ lines_of (line_no 1 ∷ [])) at s name
-    names-both = takes-both _ _ _ _ _ e name z a
+  module _ {p : ℕ} (e : Takes (field_no 14 2 ∷ []) at s (Ok p)) where
+    names-both : {q : Result ℕ Refusal} → Takes (lines_of (line_no 1 ∷ [])) p s q → Takes ((field_no 14 2 ∷ []) ++ lines_of (line_no 1 ∷ [])) at s q
+    names-both {q = q} a = takes-both _ _ _ _ p e q a
 
-    pub names-first : (name.fault ≡ 0 → ⊥) → name.fault ≡ run type_names (drop at s)
+    pub names-first : {x : Refusal} → Takes (lines_of (line_no 1 ∷ [])) p s (Err x) → number_of x ≡ run type_names (drop at s)
     unfolding type_names field_no opened line_no table
-    names-first n = takes-stop _ (opened (line_no 15)) _ _ _ names-both n
+    names-first {x = x} a = takes-stop _ (opened (line_no 15)) _ _ x (names-both a)
 
-    pub names-fit : at ≤ length s → name.fault ≡ 0 → name.at ≤ length s
-    names-fit h y = takes-fits _ [] _ _ _ names-both h y
+    module _ {q : ℕ} (a : Takes (lines_of (line_no 1 ∷ [])) p s (Ok q)) where
+      pub names-fit : at ≤ length s → q ≤ length s
+      names-fit h = takes-fits _ [] _ _ _ (names-both a) h
 
-    pub names-last : name.fault ≡ 0 → {id : Taken} → Takes (opened (line_no 15)) name.at s id → id.fault ≡ run type_names (drop at s)
-    unfolding type_names field_no opened line_no table
-    names-last y f = f.first ∙ takes-go _ (opened (line_no 15)) _ _ _ names-both y
+      pub names-last : {id : Result ℕ Refusal} → Takes (opened (line_no 15)) q s id → fault_in id ≡ run type_names (drop at s)
+      unfolding type_names field_no opened line_no table
+      names-last f = f.first ∙ takes-go _ (opened (line_no 15)) _ _ _ (names-both a)
 
 -- ---- a type: time, events and specific data
 
@@ -168,26 +173,29 @@ size-events : size (lines_of (lines_from 3 4)) ≡ 183
 unfolding lines lines_from table
 size-events = refl
 
-module _ {at : ℕ} {s : List ℕ} {end : Taken} (e : Takes (field_no 15 2 ∷ []) at s end) where
-  pub rest_end : (n : ℕ) → (end.fault ≡ 0 → ⊥) → end.fault ≡ run (type_rest n) (drop at s)
+module _ {at : ℕ} {s : List ℕ} (n : ℕ) where
+  pub rest_end : {x : Refusal} → Takes (field_no 15 2 ∷ []) at s (Err x) → number_of x ≡ run (type_rest n) (drop at s)
   unfolding type_rest field_no opened
-  rest_end n k = takes-stop _ (lines_of time_and_event ++ value (free n) ∷ []) _ _ _ e k
+  rest_end {x = x} e = takes-stop _ (lines_of time_and_event ++ value (free n) ∷ []) _ _ x e
 
-  -- f is the fault of the lines
-  module _ (z : end.fault ≡ 0) {f : ℕ} (a : f ≡ run (lines_of (lines_from 3 4)) (drop end.at s)) where
-    rest_both : Takes ((field_no 15 2 ∷ []) ++ lines_of (lines_from 3 4)) at s (record { fault = f; at = end.at + 183 })
-    rest_both = takes-both _ _ _ _ _ e _ z (record { first = a; behind = rw size-events })
+  module _ {p : ℕ} (e : Takes (field_no 15 2 ∷ []) at s (Ok p)) where
+    rest_both : {q : Result ℕ Refusal} → Takes (lines_of (lines_from 3 4)) p s q → Takes ((field_no 15 2 ∷ []) ++ lines_of (lines_from 3 4)) at s q
+    rest_both {q = q} a = takes-both _ _ _ _ p e q a
 
-    pub rest-events : (n : ℕ) → (f ≡ 0 → ⊥) → f ≡ run (type_rest n) (drop at s)
+    pub rest-events : (x : Refusal) → number_of x ≡ run (lines_of (lines_from 3 4)) (drop p s) → number_of x ≡ run (type_rest n) (drop at s)
     unfolding type_rest field_no opened lines_from table time_and_event
-    rest-events n k = takes-stop _ (value (free n) ∷ []) _ _ _ rest_both k
+    rest-events x a = takes-stop _ (value (free n) ∷ []) _ _ x (rest_both (record { first = a; behind = tt }))
 
-    pub rest-fits : at ≤ length s → f ≡ 0 → end.at + 183 ≤ length s
-    rest-fits h y = takes-fits _ [] _ _ _ rest_both h y
+    module _ (a : 0 ≡ run (lines_of (lines_from 3 4)) (drop p s)) where
+      rest-passed : Takes ((field_no 15 2 ∷ []) ++ lines_of (lines_from 3 4)) at s (Ok (p + 183))
+      rest-passed = rest_both (record { first = a; behind = rw size-events })
 
-    pub rest-last : (n : ℕ) → f ≡ 0 → {g : ℕ} → g ≡ fault (value (free n)) (drop (end.at + 183) s) → g ≡ run (type_rest n) (drop at s)
-    unfolding type_rest field_no opened lines_from table time_and_event
-    rest-last n y q = q ∙ run-one _ _ ∙ takes-go _ (value (free n) ∷ []) _ _ _ rest_both y
+      pub rest-fits : at ≤ length s → p + 183 ≤ length s
+      rest-fits h = takes-fits _ [] _ _ _ rest-passed h
+
+      pub rest-last : {g : ℕ} → g ≡ fault (value (free n)) (drop (p + 183) s) → g ≡ run (type_rest n) (drop at s)
+      unfolding type_rest field_no opened lines_from table time_and_event
+      rest-last q = q ∙ run-one _ _ ∙ takes-go _ (value (free n) ∷ []) _ _ _ rest-passed
 
 -- ---- a type
 

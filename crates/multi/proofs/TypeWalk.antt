@@ -1,86 +1,45 @@
--- The loop over the types ("for each type ..") and the short IDs kept one behind the other.
---     kept-..     the loop over the IDs kept; kept_more: one more
+-- The loop over the types ("for each type ..") and the short IDs kept.
+--     any-member  any of the IDs kept is the same
 --     Walk        the loop over the types: at a place, with i of n types passed and their IDs kept
 --     walk-..     where it begins, one type on, a type that has a fault, the end
 --     types-texts the short IDs of types that have no fault are texts
---     place-.. bytes-.. declared-..   the loops over types that have no fault
+--     place-..    where types that have no fault end
+--     Left        the loop over them that looks for a short ID; left-..: its steps
 -- Assumes nothing.
-use Prim.Native.Nat.{ℕ, zero, suc, ◌+◌, ◌-◌, ◌*◌, ◌≤◌, ◌<◌}
+use Prim.Native.Nat.{ℕ, zero, suc, ◌+◌, ◌-◌, ◌≤◌, ◌<◌}
 use mathlib.Core.Bool.{Bool, true, false, ◌||◌}
-use mathlib.Core.Path.{◌≡◌, refl, sym, ap, ◌∙◌}
+use mathlib.Core.Path.{◌≡◌, refl, sym, ◌∙◌}
 use mathlib.Core.List.{List, [], ◌∷◌, ◌++◌, append_assoc, append-nil}
 use native.Mathlib.Omega.{arith}
-use native.Mathlib.Numerals.{add-one}
-use lib.Dec.{eqb}
-use lib.ListN.{length, take, drop, length-drop}
-use lib.Seq.{drop-drop, take_at, drop_at, take-add, length-take-le}
-use borrow.Author.Tests.{eq-eqb, ne_eqb}
+use lib.Dec.{leb, eqb}
+use lib.ListN.{length, take, drop, set}
+use lib.Seq.{drop-drop}
+use Rattle.std.proofs.lemmas.List.{take_more_set}
+use Rattle.std.specs.List.{list_any}
+use borrow.Author.Tests.{leb-true, eq-eqb, ne_eqb, eqb-true}
 use Rattle.metafile.specs.Bytes.{part, is_zero, same, member}
 use Rattle.metafile.specs.Lines.{text, Field, fixed, value, lf, lines_of, field_fault, text_fault, kind_fault, fault, sub_format_id, short_id}
-use Rattle.metafile.specs.Answers.{placed}
-use Rattle.metafile.specs.Multi.{type_bytes, type_id, type_fault, types_fault, types_bytes, type_ids, types_of, minis_place, declared_ids, multi_fault, multi_bytes}
-use Rattle.laws.proofs.First.{cases, untrue, or-true, ⊳-left, ⊳-right, ⊳-stop, ⊳-go}
+use Rattle.metafile.specs.Multi.{type_bytes, type_id, type_fault, multi_length_for, types_fault, types_bytes, type_ids, types_of, multi_length, minis_place, declared_ids, multi_fault, multi_bytes}
+use Rattle.laws.proofs.First.{cases, untrue, or-true, and_both, require-true, ⊳-left, ⊳-right, ⊳-stop, ⊳-go}
 use Rattle.laws.proofs.Lists.{same-eq}
-use Rattle.laws.proofs.Loops.{placed-length}
 use Rattle.laws.proofs.Table.{field-own, run_at}
 use Rattle.laws.proofs.Distances.{lines}
 use Rattle.chunk_laws.proofs.Multi.{multi-whole, multi-enough}
-use Rattle.multi.specs.Part.{kept_ids, text_ids}
+use Rattle.multi.specs.Part.{text_ids}
 use Rattle.multi.proofs.TypeStages.{type-fits}
 
 -- ---- the short IDs kept
 
+pub any-member : (id : List ℕ) (ids : List (List ℕ)) → list_any (λ k. same id k) ids ≡ member id ids
+unfolding member
+any-member id [] = refl
+any-member id (k ∷ ids) = rw (any-member id ids)
+
+-- ---- the loop over the types
+
 -- the loop has one more turn
 one_more : (n i : ℕ) → i < n → n - i ≡ suc (n - (i + 1))
 one_more n i h = omega arith
-
-kept_at : (n i : ℕ) (s : List ℕ) → i < n → kept_ids (n - i) (drop (i * 10) s) ≡ part (i * 10) 10 s ∷ kept_ids (n - (i + 1)) (drop ((i + 1) * 10) s)
-unfolding kept_ids
-kept_at n i s h =
-    let next : i * 10 + 10 ≡ (i + 1) * 10 = omega arith in
-    rw (one_more n i h, drop-drop 10 (i * 10) s, next)
-
-pub kept-begins : (id s : List ℕ) (n : ℕ) → member id (kept_ids n s) ≡ member id (kept_ids (n - 0) (drop (0 * 10) s))
-kept-begins id s n = let z : n - 0 ≡ n = omega arith in rw z
-
-module _ (id s : List ℕ) (n i : ℕ) where
-  pub kept_here : i < n → member id (kept_ids n s) ≡ member id (kept_ids (n - i) (drop (i * 10) s)) → same id (part (i * 10) 10 s) ≡ true → true ≡ member id (kept_ids n s)
-  unfolding member
-  kept_here h e q = sym (e ∙ rw (kept_at n i s h, q))
-
-  pub kept_next : i < n → member id (kept_ids n s) ≡ member id (kept_ids (n - i) (drop (i * 10) s)) → same id (part (i * 10) 10 s) ≡ false
-      → member id (kept_ids n s) ≡ member id (kept_ids (n - (i + 1)) (drop ((i + 1) * 10) s))
-  unfolding member
-  kept_next h e q = e ∙ rw (kept_at n i s h, q)
-
-  pub kept-none : n ≤ i → member id (kept_ids n s) ≡ member id (kept_ids (n - i) (drop (i * 10) s)) → false ≡ member id (kept_ids n s)
-  unfolding member kept_ids
-  kept-none h e = let z : n - i ≡ 0 = omega arith in sym (e ∙ rw z)
-
--- bytes put past the first k
-placed_past : (k p : ℕ) (v s : List ℕ) → placed (k + p) v s ≡ take k s ++ placed p v (drop k s)
-unfolding placed
-placed_past k p v s =
-    let sums : k + (p + length v) ≡ k + p + length v = omega arith in
-    rw (take-add k p s, append_assoc, drop-drop (p + length v) k s, sums)
-
--- one more is put behind n
-kept_more : (n : ℕ) (v s : List ℕ) → length v ≡ 10 → n * 10 + 10 ≤ length s → kept_ids (suc n) (placed (n * 10) v s) ≡ kept_ids n s ++ v ∷ []
-unfolding kept_ids placed
-kept_more zero v s l h = rw (take_at v (drop (0 + length v) s) 10 l)
-kept_more (suc n) v s l h =
-    let ten : suc n * 10 ≡ 10 + n * 10 = omega arith in
-    let whole : placed (suc n * 10) v s ≡ take 10 s ++ placed (n * 10) v (drop 10 s) = rw ten (placed_past 10 (n * 10) v s) in
-    let long : length (take 10 s) ≡ 10 = length-take-le 10 s (omega arith) in
-    let first : take 10 (placed (suc n * 10) v s) ≡ take 10 s = rw whole (take_at (take 10 s) _ 10 long) in
-    let rest : drop 10 (placed (suc n * 10) v s) ≡ placed (n * 10) v (drop 10 s) = rw whole (drop_at (take 10 s) _ 10 long) in
-    let ih = kept_more n v (drop 10 s) l (simp length-drop (omega arith)) in
-    cons first (ap (kept_ids (suc n)) rest ∙ ih)
-  where
-    cons : {x y : List ℕ} {xs ys : List (List ℕ)} → x ≡ y → xs ≡ ys → x ∷ xs ≡ y ∷ ys
-    cons p q = cc
-
--- ---- the loop over the types
 
 -- the order of the IDs before a type does not matter
 members : (ids js : List (List ℕ)) → Type 0
@@ -115,20 +74,17 @@ types-members (suc n) announced before ids js t m =
     )
 
 -- i of the n types from the place 65 on are passed, their IDs kept
-pub record Walk (r : List ℕ) (n announced at i : ℕ) (kept : List ℕ) : Type 0 where
+pub record Walk (r : List ℕ) (n announced at i : ℕ) (kept : List (List ℕ)) : Type 0 where
   pub from : 65 ≤ at
   pub inside : at ≤ length r
-  pub passed : i ≤ n
-  pub room : n * 10 ≤ length kept
-  pub faults : types_fault n announced 0 [] (drop 65 r) ≡ types_fault (n - i) announced (at - 65) (kept_ids i kept) (drop at r)
+  pub faults : types_fault n announced 0 [] (drop 65 r) ≡ types_fault (n - i) announced (at - 65) (take i kept) (drop at r)
   pub ends : 65 + types_bytes n (drop 65 r) ≡ at + types_bytes (n - i) (drop at r)
-  pub declared : type_ids n (drop 65 r) ≡ kept_ids i kept ++ type_ids (n - i) (drop at r)
+  pub declared : type_ids n (drop 65 r) ≡ take i kept ++ type_ids (n - i) (drop at r)
 
-pub walk_begins : (r : List ℕ) (n announced : ℕ) (kept : List ℕ) → 65 ≤ length r → n * 10 ≤ length kept → Walk r n announced 65 0 kept
-unfolding kept_ids
-walk_begins r n announced kept h k =
+pub walk_begins : (r : List ℕ) (n announced : ℕ) (kept : List (List ℕ)) → 65 ≤ length r → Walk r n announced 65 0 kept
+walk_begins r n announced kept h =
     let z : n - 0 ≡ n = omega arith in
-    record { from = omega arith; inside = h; passed = omega arith; room = k; faults = rw z; ends = rw z; declared = rw z }
+    record { from = omega arith; inside = h; faults = rw z; ends = rw z; declared = rw z }
 
 is_last : (n i : ℕ) → i < n → is_zero (n - (i + 1)) ≡ eqb (i + 1) n
 unfolding is_zero
@@ -137,18 +93,14 @@ is_last n i h =
     (λ z. rw (z, eq-eqb (i + 1) n (omega arith)))
     (λ k z. rw (z, ne_eqb (i + 1) n (λ q. omega arith)))
 
-id-length : (at : ℕ) (r : List ℕ) → at + 334 ≤ length r → length (type_id (drop at r)) ≡ 10
-unfolding type_id
-id-length at r h = length-take-le 10 (drop 324 (drop at r)) (simp length-drop (omega arith))
-
 pub type-least : (t : List ℕ) → 518 ≤ type_bytes t
 unfolding type_bytes
 type-least t = omega arith
 
 -- a turn: f is the fault of the type at the place, judged against the length k
-module _ {r : List ℕ} {n announced at i : ℕ} {kept : List ℕ} (w : Walk r n announced at i kept) (h : i < n)
-    {f k : ℕ} (q : k ≡ announced) (e : f ≡ type_fault (eqb (i + 1) n) k (at - 65) (kept_ids i kept) (drop at r)) where
-  this-type : f ≡ type_fault (eqb (i + 1) n) announced (at - 65) (kept_ids i kept) (drop at r)
+module _ {r : List ℕ} {n announced at i : ℕ} {kept : List (List ℕ)} (w : Walk r n announced at i kept) (h : i < n)
+    {f k : ℕ} (q : k ≡ announced) (e : f ≡ type_fault (eqb (i + 1) n) k (at - 65) (take i kept) (drop at r)) where
+  this-type : f ≡ type_fault (eqb (i + 1) n) announced (at - 65) (take i kept) (drop at r)
   this-type = rw q at e
 
   pub walk-stops : (f ≡ 0 → ⊥) → types_fault n announced 0 [] (drop 65 r) ≡ f
@@ -157,47 +109,36 @@ module _ {r : List ℕ} {n announced at i : ℕ} {kept : List ℕ} (w : Walk r n
 
   module _ (z : f ≡ 0) where
     pub this-fits : at + type_bytes (drop at r) ≤ length r
-    this-fits = type-fits (eqb (i + 1) n) announced (at - 65) (kept_ids i kept) at r w.inside (sym this-type ∙ z)
+    this-fits = type-fits (eqb (i + 1) n) announced (at - 65) (take i kept) at r w.inside (sym this-type ∙ z)
 
-    next-faults : types_fault (n - i) announced (at - 65) (kept_ids i kept) (drop at r)
-        ≡ types_fault (n - (i + 1)) announced (at + type_bytes (drop at r) - 65) (type_id (drop at r) ∷ kept_ids i kept) (drop (at + type_bytes (drop at r)) r)
+    next-faults : types_fault (n - i) announced (at - 65) (take i kept) (drop at r)
+        ≡ types_fault (n - (i + 1)) announced (at + type_bytes (drop at r) - 65) (type_id (drop at r) ∷ take i kept) (drop (at + type_bytes (drop at r)) r)
     unfolding types_fault
     next-faults =
         let place : at - 65 + type_bytes (drop at r) ≡ at + type_bytes (drop at r) - 65 = omega (arith, w.from) in
         rw (one_more n i h, is_last n i h, ← this-type, z, place, drop-drop (type_bytes (drop at r)) at r) (⊳-go 0 _ refl)
 
-    this-id : length (type_id (drop at r)) ≡ 10
-    this-id = id-length at r (omega (arith, this-fits, type-least (drop at r)))
-
-    next-ids : kept_ids (i + 1) (placed (i * 10) (type_id (drop at r)) kept) ≡ kept_ids i kept ++ type_id (drop at r) ∷ []
-    next-ids = rw add-one (kept_more i (type_id (drop at r)) kept this-id (omega (arith, w.room)))
-
-    walk-next : Walk r n announced (at + type_bytes (drop at r)) (i + 1) (placed (i * 10) (type_id (drop at r)) kept)
-    unfolding types_bytes type_ids
-    walk-next =
+    -- m bytes on, the ID kept
+    pub walk-next : (m : ℕ) (id : List ℕ) → m ≡ type_bytes (drop at r) → id ≡ part (at + 324) 10 r → i < length kept
+        → Walk r n announced (at + m) (i + 1) (set kept i id)
+    unfolding types_bytes type_ids type_id
+    walk-next m id b p room =
+        let is : id ≡ type_id (drop at r) = p ∙ rw (drop-drop 324 at r) in
+        let ids : take (i + 1) (set kept i (type_id (drop at r))) ≡ take i kept ++ type_id (drop at r) ∷ [] = take_more_set kept i _ room in
+        rw (b, is) (
         record {
           from = omega (arith, w.from);
           inside = this-fits;
-          passed = omega arith;
-          room = rw (placed-length (i * 10) (type_id (drop at r)) kept (omega (arith, this-id, w.room))) w.room;
           faults =
               w.faults
               ∙ next-faults
-              ∙ rw next-ids (types-members _ announced _ _ _ _ (members-snoc (type_id (drop at r)) (kept_ids i kept)));
+              ∙ rw ids (types-members _ announced _ _ _ _ (members-snoc (type_id (drop at r)) (take i kept)));
           ends = w.ends ∙ rw (one_more n i h, drop-drop (type_bytes (drop at r)) at r) (omega arith);
-          declared = w.declared ∙ rw (one_more n i h, next-ids, drop-drop (type_bytes (drop at r)) at r, append_assoc);
+          declared = w.declared ∙ rw (one_more n i h, ids, drop-drop (type_bytes (drop at r)) at r, append_assoc);
         }
+        )
 
-    -- as the code has it: m bytes on, the ID copied
-    pub walk-goes : (m : ℕ) (more : List ℕ) → m ≡ type_bytes (drop at r) → more ≡ placed (i * 10) (part (at + 324) 10 r) kept
-        → Walk r n announced (at + m) (i + 1) more × (length more ≡ length kept)
-    unfolding type_id
-    walk-goes m more b p =
-        let id : part (at + 324) 10 r ≡ type_id (drop at r) = rw (drop-drop 324 at r) in
-        let long = placed-length (i * 10) (type_id (drop at r)) kept (omega (arith, this-id, w.room)) in
-        rw (b, p, id) (walk-next, long)
-
-module _ {r : List ℕ} {n announced at i : ℕ} {kept : List ℕ} (w : Walk r n announced at i kept) (h : n ≤ i) where
+module _ {r : List ℕ} {n announced at i : ℕ} {kept : List (List ℕ)} (w : Walk r n announced at i kept) (h : n ≤ i) where
   all-passed : n - i ≡ 0
   all-passed = omega arith
 
@@ -209,10 +150,10 @@ module _ {r : List ℕ} {n announced at i : ℕ} {kept : List ℕ} (w : Walk r n
   unfolding types_bytes
   walk_ends = w.ends ∙ rw all-passed (omega arith)
 
-  pub walk-declared : kept_ids n kept ≡ type_ids n (drop 65 r)
+  pub walk-declared : i ≤ n → take n kept ≡ type_ids n (drop 65 r)
   unfolding type_ids
-  walk-declared =
-      let same_count : n ≡ i = omega (arith, w.passed) in
+  walk-declared k =
+      let same_count : n ≡ i = omega arith in
       sym (w.declared ∙ rw (all-passed, append-nil, same_count))
 
 -- ---- types that have no fault
@@ -241,46 +182,57 @@ pub place-past : (r : List ℕ) → 65 ≤ minis_place r
 unfolding minis_place
 place-past r = omega arith
 
-pub place-begins : (r : List ℕ) (n : ℕ) → n ≡ types_of r → 65 + types_bytes n (drop 65 r) ≡ minis_place r
+-- "Multi_Chunk_Header_Length at the last SubType_Header_Length"
+last-length : (n announced before : ℕ) (ids : List (List ℕ)) (t : List ℕ) → types_fault (suc n) announced before ids t ≡ 0
+    → announced ≡ 27 + (before + types_bytes (suc n) t)
+unfolding types_fault types_bytes type_fault multi_length_for is_zero
+last-length zero announced before ids t e =
+    let y = require-true _ 6 (⊳-left _ _ (⊳-right _ _ (⊳-right _ _ (⊳-left _ _ e)))) in
+    omega (arith, eqb-true announced (27 + (before + type_bytes t)) y)
+last-length (suc n) announced before ids t e =
+    omega (arith, last-length n announced (before + type_bytes t) (type_id t ∷ ids) (drop (type_bytes t) t) (⊳-right _ _ e))
+
+pub place_is : (r : List ℕ) → multi_fault r ≡ 0 → minis_place r ≡ 38 + multi_length r
 unfolding minis_place
-place-begins r n e = rw e
+place_is r e =
+    let w = multi-whole r e in
+    let some = and_both (leb 1 (types_of r)) (leb (types_of r) 64) (require-true _ 6 w.in_count) in
+    let one : 1 ≤ types_of r = leb-true 1 (types_of r) some.0 in
+    let n : types_of r ≡ suc (types_of r - 1) = omega arith in
+    omega (arith, rw (← n) at (last-length (types_of r - 1) (multi_length r) 0 [] (drop 65 r) (rw n at w.in-types)))
 
-pub place-ends : (at n p : ℕ) (t : List ℕ) → n ≤ 0 → at + types_bytes n t ≡ p → at ≡ p
-unfolding types_bytes
-place-ends at n p t h e =
-    let z : n ≡ 0 = omega arith in
-    let k = rw z at e in
-    omega arith
+-- n types are left from a place on, and a short ID is declared as it is by them
+pub record Left (id r : List ℕ) (at n : ℕ) : Type 0 where
+  pub inside : at + types_bytes n (drop at r) ≤ length r
+  pub by_them : member id (declared_ids r) ≡ member id (type_ids n (drop at r))
 
-pub declared-begins : (id r : List ℕ) (n : ℕ) → n ≡ types_of r → member id (declared_ids r) ≡ member id (type_ids n (drop 65 r))
-unfolding declared_ids
-declared-begins id r n e = rw e
+pub left-begins : (id r : List ℕ) (n : ℕ) → multi_fault r ≡ 0 → n ≡ types_of r → Left id r 65 (n - 0)
+unfolding declared_ids minis_place
+left-begins id r n e q =
+    let z : n - 0 ≡ n = omega arith in
+    record { inside = rw (z, q) (place-fits r e); by_them = rw (z, q) }
 
--- one type of k bytes on, with n left and then m
-module _ (r : List ℕ) (n m at : ℕ) (one : n ≡ suc m) where
-  bytes-at : at + types_bytes n (drop at r) ≡ at + type_bytes (drop at r) + types_bytes m (drop (at + type_bytes (drop at r)) r)
+-- one more of n types, i of them passed
+module _ {id r : List ℕ} {at n i : ℕ} (w : Left id r at (n - i)) (h : i < n) where
+  bytes-at : at + types_bytes (n - i) (drop at r) ≡ at + type_bytes (drop at r) + types_bytes (n - (i + 1)) (drop (at + type_bytes (drop at r)) r)
   unfolding types_bytes
-  bytes-at = rw (one, drop-drop (type_bytes (drop at r)) at r) (omega arith)
+  bytes-at = rw (one_more n i h, drop-drop (type_bytes (drop at r)) at r) (omega arith)
 
-  pub next_fits : at + types_bytes n (drop at r) ≤ length r → at + type_bytes (drop at r) ≤ length r
-  next_fits h = omega (arith, bytes-at)
-
-  pub bytes_next : (k : ℕ) → k ≡ type_bytes (drop at r) → at + types_bytes n (drop at r) ≡ at + k + types_bytes m (drop (at + k) r)
-  bytes_next k q = bytes-at ∙ rw q
-
-  ids_at : type_ids n (drop at r) ≡ part (at + 324) 10 r ∷ type_ids m (drop (at + type_bytes (drop at r)) r)
+  ids_at : type_ids (n - i) (drop at r) ≡ part (at + 324) 10 r ∷ type_ids (n - (i + 1)) (drop (at + type_bytes (drop at r)) r)
   unfolding type_ids type_id
-  ids_at = rw (one, drop-drop 324 at r, drop-drop (type_bytes (drop at r)) at r)
+  ids_at = rw (one_more n i h, drop-drop 324 at r, drop-drop (type_bytes (drop at r)) at r)
 
-  module _ (id : List ℕ) (ids : List (List ℕ)) (e : member id ids ≡ member id (type_ids n (drop at r))) where
-    pub declared-here : same id (part (at + 324) 10 r) ≡ true → true ≡ member id ids
-    unfolding member
-    declared-here t = sym (e ∙ rw (ids_at, t))
+  pub left-fits : at + type_bytes (drop at r) ≤ length r
+  left-fits = omega (arith, w.inside, bytes-at)
 
-    pub declared-next : (k : ℕ) → k ≡ type_bytes (drop at r) → same id (part (at + 324) 10 r) ≡ false → member id ids ≡ member id (type_ids m (drop (at + k) r))
-    unfolding member
-    declared-next k q t = e ∙ rw (ids_at, t, q)
+  pub left-here : same id (part (at + 324) 10 r) ≡ true → true ≡ member id (declared_ids r)
+  unfolding member
+  left-here t = sym (w.by_them ∙ rw (ids_at, t))
 
-pub declared-none : (id : List ℕ) (ids : List (List ℕ)) (n : ℕ) (t : List ℕ) → n ≤ 0 → member id ids ≡ member id (type_ids n t) → false ≡ member id ids
+  pub left-next : {k : ℕ} → k ≡ type_bytes (drop at r) → same id (part (at + 324) 10 r) ≡ false → Left id r (at + k) (n - (i + 1))
+  unfolding member
+  left-next q t = rw q (record { inside = omega (arith, w.inside, bytes-at); by_them = w.by_them ∙ rw (ids_at, t) })
+
+pub left-none : {id r : List ℕ} {at n i : ℕ} → Left id r at (n - i) → n ≤ i → false ≡ member id (declared_ids r)
 unfolding type_ids member
-declared-none id ids n t h e = let z : n ≡ 0 = omega arith in sym (e ∙ rw z)
+left-none {n = n} {i = i} w h = let z : n - i ≡ 0 = omega arith in sym (w.by_them ∙ rw z)

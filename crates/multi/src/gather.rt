@@ -3,7 +3,9 @@ ghost use Rattle.std.specs.Prelude.{◌≡◌, ◌+◌, ◌<◌, ◌≤◌, leng
 ghost use Rattle.metafile.specs.Bytes.{member};
 ghost use Rattle.metafile.specs.Answers.{placed};
 ghost use Rattle.metafile.specs.Multi.{mini_data, minis_place, declared_ids, multi_fault, multi_joined};
-ghost use Rattle.multi.specs.Part.{data_under};
+ghost use Rattle.std.specs.List.{concat};
+ghost use Rattle.std.specs.Iterator.{YieldsFirstRef, item_count};
+ghost use Rattle.multi.specs.Part.{Whole, each_under};
 
 use crate::{minis, runs, types};
 use table::places;
@@ -14,41 +16,68 @@ pub fn is_declared(r: &[u8], id: &[u8]) -> bool
     requires id_len { length id.now ≡ 10 }
     ensures { result ≡ member id.now (declared_ids r.now) }
 {
-    let mut left = types::type_count(r);
     let mut at: usize = places::TYPES;
-    while 0 < left {
+    for _ in 0..types::type_count(r) {
         if search::same_bytes(id, &r[at + places::SHORT_ID..at + places::SHORT_ID_END]) {
             return true;
         }
         at += types::type_bytes(r, at);
-        left -= 1;
     }
     false
 }
 
-// The place of the first mini-chunk.
+// The place of the first mini-chunk: the header's length, which is that of the types too, "counts from just after its last
+// digit".
 fn minis_place(r: &[u8]) -> usize
     requires { multi_fault r.now ≡ 0 }
     ensures { result ≡ minis_place r.now }
 {
-    let mut left = types::type_count(r);
-    let mut at: usize = places::TYPES;
-    while 0 < left {
-        at += types::type_bytes(r, at);
-        left -= 1;
-    }
-    at
+    places::MULTI_HEADER_LENGTH_END + runs::length_at(r, places::MULTI_HEADER_LENGTH)
 }
 
-// How many bytes the mini-chunk at a place adds.
-fn length_under(r: &[u8], at: usize, id: &[u8]) -> usize
-    requires { at + (32 + mini_data (drop at r.now)) ≤ length r.now }
-    ensures { result ≡ length (data_under id.now (drop at r.now)) }
-{
-    if search::same_bytes(&r[at + places::MINI_ID..at + places::MINI_LENGTH], id) {
-        return runs::length_at(r, at + places::MINI_LENGTH);
+// What each mini-chunk adds to the data under a short ID, from a place of contents that have no fault on.
+#[derive(Drop)]
+struct Under<'a> {
+    r: &'a [u8],
+    id: &'a [u8],
+    at: usize,
+    ghost whole: { Whole r.now at },
+}
+
+impl<'a> Under<'a> {
+    fn new(r: &'a [u8], id: &'a [u8]) -> Under<'a>
+        requires { multi_fault r.now ≡ 0 }
+        ensures { concat (each_under result.id.now 0 (drop result.at result.r.now)) ≡ multi_joined id.now r.now }
+    {
+        Under {
+            r,
+            id,
+            at: minis_place(r),
+        }
     }
-    0
+}
+
+impl<'a> Iterator for Under<'a> {
+    type Item = &'a [u8];
+
+    ghost next_gives = { YieldsFirstRef (λ s. each_under s.id.now 0 (drop s.at s.r.now)) };
+
+    ghost remaining = { item_count (λ s. each_under s.id.now 0 (drop s.at s.r.now)) };
+
+    fn next(&mut self) -> Option<&'a [u8]> {
+        let at = self.at;
+        if !minis::is_mini(self.r, at) {
+            return None;
+        }
+        self.at = at + minis::mini_bytes(self.r, at);
+        if search::same_bytes(
+            &self.r[at + places::MINI_ID..at + places::MINI_LENGTH],
+            self.id,
+        ) {
+            return Some(&self.r[at + places::MINI_DATA..self.at]);
+        }
+        Some(&self.r[..0])
+    }
 }
 
 // The length of the data under a short ID.
@@ -56,25 +85,9 @@ pub fn joined_length(r: &[u8], id: &[u8]) -> usize
     requires { multi_fault r.now ≡ 0 }
     ensures { result ≡ length (multi_joined id.now r.now) }
 {
-    let mut at = minis_place(r);
     let mut done: usize = 0;
-    while minis::is_mini(r, at) {
-        done += length_under(r, at, id);
-        at += minis::mini_bytes(r, at);
-    }
-    done
-}
-
-// What the mini-chunk at a place adds is put behind the bytes done; the answer is the place after it.
-fn put_under(r: &[u8], at: usize, id: &[u8], buffer: &mut [u8], done: usize) -> usize
-    requires r_in_bounds { at + (32 + mini_data (drop at r.now)) ≤ length r.now }
-    requires r_in_bounds_2 { done + length (data_under id.now (drop at r.now)) ≤ length buffer.old }
-    ensures value { result ≡ done + length (data_under id.now (drop at r.now)) }
-    ensures buffer_after { buffer.new ≡ placed done (data_under id.now (drop at r.now)) buffer.old }
-{
-    if search::same_bytes(&r[at + places::MINI_ID..at + places::MINI_LENGTH], id) {
-        let n = runs::length_at(r, at + places::MINI_LENGTH);
-        return runs::put_part(r, at + places::MINI_DATA, n, buffer, done);
+    for data in Under::new(r, id) {
+        done += data.len();
     }
     done
 }
@@ -86,11 +99,9 @@ pub fn put_joined(r: &[u8], id: &[u8], buffer: &mut [u8]) -> usize
     ensures value { result ≡ length (multi_joined id.now r.now) }
     ensures buffer_after { buffer.new ≡ placed 0 (multi_joined id.now r.now) buffer.old }
 {
-    let mut at = minis_place(r);
     let mut done: usize = 0;
-    while minis::is_mini(r, at) {
-        done = put_under(r, at, id, buffer, done);
-        at += minis::mini_bytes(r, at);
+    for data in Under::new(r, id) {
+        done = lines::put_bytes(buffer, done, data);
     }
     done
 }

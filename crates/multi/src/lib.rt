@@ -15,68 +15,39 @@ mod runs;
 mod types;
 
 ghost use Rattle.std.specs.Prelude.{◌≡◌};
-ghost use Rattle.multi.specs.Part.{multi_part, head_fault};
+ghost use Rattle.metafile.specs.Refusals.{fault_in};
+ghost use Rattle.multi.specs.Part.{part_in, multi_part, head_fault};
 
 pub use gather::{is_declared, joined_length, put_joined};
 use lines::reader::END;
-use metafile::refusals;
-use table::numbers;
-
-// The first fault, and the number of bytes where there is none.
-#[repr(C)]
-#[derive(Clone, Copy)]
-pub struct Part {
-    pub number: u8,
-    pub bytes: usize,
-}
+use metafile::Refusal;
+use table::{numbers, places};
 
 // Up to the LF after the type count.
-fn head_fault(r: &[u8]) -> u8
-    ensures { result ≡ head_fault r.now }
+fn head_fault(r: &[u8]) -> Result<(), Refusal>
+    ensures { fault_in result ≡ head_fault r.now }
 {
-    let first = lines::read_line(r, 0, numbers::MULTI_HEADER_LENGTH);
-    if first.fault != 0 {
-        return first.fault;
-    }
-    let second = lines::read_opened(r, first.at, numbers::TYPE_COUNT);
-    if second.fault != 0 {
-        return second.fault;
-    }
+    let first = lines::read_line(r, 0, numbers::MULTI_HEADER_LENGTH)?;
+    let second = lines::read_opened(r, first, numbers::TYPE_COUNT)?;
     let n = types::type_count(r);
     if n < 1 {
-        return refusals::LENGTH;
+        return Err(Refusal::Length);
     }
     if n > 64 {
-        return refusals::LENGTH;
+        return Err(Refusal::Length);
     }
-    let end = lines::read_field(r, second.at, numbers::TYPE_COUNT, END);
-    end.fault
+    lines::read_field(r, second, numbers::TYPE_COUNT, END)?;
+    Ok(())
 }
 
-// The contents that r begins with.
-pub fn multi_part(r: &[u8]) -> Part
-    ensures { result ≡ multi_part r.now }
+// How many bytes the contents take that r begins with, or their first fault.
+pub fn multi_part(r: &[u8]) -> Result<usize, Refusal>
+    ensures { part_in result ≡ multi_part r.now }
 {
-    let head = head_fault(r);
-    if head != 0 {
-        return Part {
-            number: head,
-            bytes: 0,
-        };
-    }
+    head_fault(r)?;
     let n = types::type_count(r);
-    let mut ids = [0u8; 640];
-    let part = types::types_part(r, n, &mut ids);
-    if part.number != 0 {
-        return part;
-    }
-    let at = part.bytes;
-    let first = minis::first_fault(r, at);
-    if first != 0 {
-        return Part {
-            number: first,
-            bytes: 0,
-        };
-    }
-    minis::minis_part(r, at, &ids, n)
+    let mut ids = [[0u8; places::ID]; 64];
+    let at = types::types_part(r, n, &mut ids)?;
+    minis::first_fault(r, at)?;
+    minis::minis_part(r, at, &ids[..n])
 }

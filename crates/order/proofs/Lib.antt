@@ -1,6 +1,6 @@
--- Laws      what is listed, and lists that keep it
+-- Laws      what a list holds
 -- Numbers   bytes as one number, compared from the last byte on
--- Loops     what the functions need of the order of places
+-- Loops     what the functions of src need
 pub mod Laws
 pub mod Numbers
 pub mod Loops

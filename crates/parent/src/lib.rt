@@ -10,7 +10,7 @@ ghost use Rattle.metafile.specs.Bytes.{part, same};
 ghost use Rattle.metafile.specs.Answers.{parent_answer};
 ghost use Rattle.metafile.specs.Calls.{parent};
 
-use metafile::{ParentAnswer, refusals};
+use metafile::{ParentRow, Refusal};
 use table::places;
 
 // The serial number at a place of the file.
@@ -27,7 +27,7 @@ fn agree(file: &[u8], a: usize, b: usize) -> bool
     requires b_in_bounds { b + 256 ≤ length file.now }
     ensures { result ≡ same (part a 256 file.now) (part b 256 file.now) }
 {
-    search::same_bytes(&file[a..a + places::NAME], &file[b..b + places::NAME])
+    file[a..a + places::NAME] == file[b..b + places::NAME]
 }
 
 // Rows that a reading passes one by one; to one behind them it may go at once.
@@ -37,33 +37,30 @@ const PASSED: usize = 150000;
 fn sought_from(row: usize) -> usize
     ensures { result ≤ row }
 {
-    let half = row / 2;
-    if half < PASSED { half } else { PASSED }
+    PASSED.min(row / 2)
 }
 
 // Tests 11, 13, 14.
-pub fn parent(file: &[u8], row: usize, dependency: usize) -> ParentAnswer
+pub fn parent(file: &[u8], row: usize, dependency: usize) -> Result<Option<ParentRow>, Refusal>
     ensures { parent_answer result ≡ parent file.now row dependency }
 {
     let mut index = [0u32; walk::INDEX];
     let from = sought_from(row);
-    let middle = walk::row_of(file, from, row, &mut index);
-    let own = walk::row_behind(file, from, middle, row, &mut index);
-    if own.number != 0 {
-        return ParentAnswer::Refused(own.number);
-    }
+    let middle = walk::row_of(file, from, row, &mut index)?;
+    let own = walk::row_behind(file, from, Ok(middle), row, &mut index)?;
     if own.layout.dependencies <= dependency {
-        return ParentAnswer::Refused(refusals::NO_DEPENDENCY);
+        return Err(Refusal::NoDependency);
     }
     let at = own.at + places::DEPENDENCIES + places::DEPENDENCY_BYTES * dependency;
     let serial = serial_at(file, at + places::DEPENDENCY_SERIAL);
-    let found = walk::row_with(file, own, from, middle.at, serial, &mut index);
-    if !found.there {
-        return ParentAnswer::Missing;
+    match walk::row_with(file, own, from, middle.at, serial, &mut index) {
+        None => Ok(None),
+        Some(found) => {
+            let subformat = found.place + places::SUB_FORMAT;
+            Ok(Some(ParentRow {
+                row: found.row,
+                agree: agree(file, at + places::DEPENDENCY_SUB_FORMAT, subformat),
+            }))
+        }
     }
-    let subformat = found.place + places::SUB_FORMAT;
-    ParentAnswer::Found(
-        found.row,
-        agree(file, at + places::DEPENDENCY_SUB_FORMAT, subformat),
-    )
 }

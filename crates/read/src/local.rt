@@ -19,14 +19,7 @@ pub struct Table {
 fn no_rows() -> [Row; ROWS]
     ensures { result ≡ replicate table_rows no_row }
 {
-    let row = Row::none();
-    [row; ROWS]
-}
-
-fn joined(rows: [Row; ROWS], answer: ReadAnswer) -> Table
-    ensures { (result.rows ≡ rows) × (result.answer ≡ answer) }
-{
-    Table { rows, answer }
+    [Row::none(); ROWS]
 }
 
 // The rows of the file: all of them, where it has at most 65,536 bytes.
@@ -35,5 +28,5 @@ pub fn read_table(file: &[u8]) -> Table
 {
     let mut rows = no_rows();
     let answer = crate::read(file, &mut rows);
-    joined(rows, answer)
+    Table { rows, answer }
 }

@@ -24,10 +24,8 @@ pub fn row(file: &[u8], c: Cursor) -> Row
     requires go_value { c.go ≡ true }
     ensures { result ≡ row_no (rows_of file.now) c.row }
 {
-    let at = c.at;
     let end = MARK + c.header.mark;
-    let layout = c.layout;
-    chunk::row(&file[at..], at, &file[MARK..end], layout)
+    chunk::row(&file[c.at..], c.at, &file[MARK..end], c.layout)
 }
 
 // The row behind n rows, the last of which ends at the place `at`; its serial number is entered into the index.

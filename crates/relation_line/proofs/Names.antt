@@ -1,16 +1,16 @@
 -- The name of a relation chunk, padded with spaces, and the name of a relation line, its first field.
---     relations-name(-not)   17 bytes and spaces; other 17 bytes
+--     relations-name         its 256 bytes
 --     named-..               12 bytes, and a tab or nothing behind them
 -- Assumes nothing.
-use Prim.Native.Nat.{ℕ, ◌-◌, ◌<◌}
+use Prim.Native.Nat.{ℕ, ◌<◌}
 use mathlib.Core.Bool.{Bool, true, false, ◌&&◌}
-use mathlib.Core.Path.{◌≡◌, refl, sym, ap, ◌∙◌}
-use mathlib.Core.List.{List, [], ◌∷◌, ◌++◌}
+use mathlib.Core.Path.{◌≡◌, refl, sym, ◌∙◌}
+use mathlib.Core.List.{List, [], ◌∷◌}
 use native.Mathlib.Omega.{arith}
 use native.Mathlib.Nat.{le_of_eq}
 use lib.Dec.{eqb}
-use lib.ListN.{length, take, drop, get_or, replicate, length-take, take-append-drop, drop_of_length-le}
-use lib.Seq.{take-append_seam, drop-cons}
+use lib.ListN.{length, take, drop, get_or, length-take, drop_of_length-le}
+use lib.Seq.{drop-cons}
 use borrow.Author.Tests.{eq-eqb, eqb-true}
 use Rattle.metafile.specs.Bytes.{bytes, same}
 use Rattle.metafile.specs.Fields.{padded}
@@ -18,41 +18,15 @@ use Rattle.metafile.specs.Lines.{first_of}
 use Rattle.metafile.specs.Append.{is_in}
 use Rattle.metafile.specs.Relations.{relations_name, onto_first, split_on, relation_name}
 use Rattle.laws.proofs.First.{test, untrue, and_both, or-false}
-use Rattle.laws.proofs.Lists.{same-eq, same_not}
-use Rattle.laws.proofs.Loops.{part-drop}
+use Rattle.laws.proofs.Lists.{same-eq}
 use Rattle.search.proofs.Laws.{same-lengths}
 use Rattle.relation_line.specs.Form.{has_name}
 
--- ---- bytes that begin with a text
-
-same-front : (t w k : List ℕ) → same (t ++ w) (t ++ k) ≡ same w k
-unfolding same
-same-front [] w k = refl
-same-front (x ∷ t) w k = rw (eq-eqb x x refl) (same-front t w k)
-
-front_same : (t k v : List ℕ) → same (take (length t) v) t ≡ true → same v (t ++ k) ≡ same (drop (length t) v) k
-front_same t k v e =
-    let whole : v ≡ t ++ drop (length t) v =
-    sym (take-append-drop (length t) v) ∙ ap (λ (x : List ℕ). x ++ drop (length t) v) (same-eq (take (length t) v) t e) in
-    ap (λ (x : List ℕ). same x (t ++ k)) whole ∙ same-front t (drop (length t) v) k
-
-front-other : (t k v : List ℕ) → same (take (length t) v) t ≡ false → same v (t ++ k) ≡ false
-front-other t k v e =
-    test (same v (t ++ k))
-    (λ q. absurd (same_not (take (length t) v) t e (ap (take (length t)) (same-eq v (t ++ k) q) ∙ take-append_seam t k)))
-    (λ q. q)
-
 -- ---- the name of a relation chunk
 
-module _ (v : List ℕ) where
-  pub relations-name : (b : Bool) → true ≡ same (take 17 v) (bytes "ADS\\SYS\\Relations")
-      → b ≡ same (take (length v - 17) (drop 17 v)) (replicate 239 32) → b ≡ same v relations_name
-  unfolding relations_name padded
-  relations-name b ea eb = rw part-drop at eb ∙ sym (front_same (bytes "ADS\\SYS\\Relations") (replicate 239 32) v (sym ea))
-
-  pub relations-name-not : false ≡ same (take 17 v) (bytes "ADS\\SYS\\Relations") → false ≡ same v relations_name
-  unfolding relations_name padded
-  relations-name-not ea = sym (front-other (bytes "ADS\\SYS\\Relations") (replicate 239 32) v (sym ea))
+pub relations-name : (v : List ℕ) (b : Bool) → length v ≡ 256 → b ≡ same v (padded (length v) (bytes "ADS\\SYS\\Relations")) → b ≡ same v relations_name
+unfolding relations_name
+relations-name v b h e = rw h at e
 
 -- ---- the first field
 

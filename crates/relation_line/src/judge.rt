@@ -4,13 +4,11 @@ ghost use Rattle.std.specs.Prelude.{◌≡◌, true, ◌+◌, ◌*◌, ◌≤◌
 ghost use Rattle.metafile.specs.Bytes.{part};
 ghost use Rattle.metafile.specs.Fields.{is_serial};
 ghost use Rattle.metafile.specs.Relations.{split_on, well_formed, is_parent_of, chunk_declares};
-ghost use Rattle.relation_line.specs.Form.{has_name, form_of};
+ghost use Rattle.relation_line.specs.Form.{has_name, form_of, first_verdict};
 
-use crate::{parts, verdicts};
+use crate::parts;
+use crate::verdicts::Verdict;
 use table::places;
-
-// The form of a line that gets no verdict.
-const COMMENT: u8 = 0;
 
 // The first field is the name of a relation line.
 pub fn is_named(line: &[u8]) -> bool
@@ -33,8 +31,7 @@ fn serial_at(line: &[u8], at: usize) -> bool
     requires { at + 38 ≤ length line.now }
     ensures { result ≡ is_serial (part at 38 line.now) }
 {
-    let day = fields::read_serial(fields::serial_from(&line[at..at + places::SERIAL]));
-    day.fault() == 0
+    fields::read_serial(fields::serial_from(&line[at..at + places::SERIAL])).is_some()
 }
 
 // A line that has the name has five well-formed fields: these have fixed lengths, so all is tested by place.
@@ -55,17 +52,17 @@ fn is_formed(line: &[u8]) -> bool
         & fields::is_text(&line[parts::PARENT_NAME..parts::LINE])
 }
 
-// 0 a comment, 2 a relation line of five well-formed fields, 3 a malformed one.
-pub fn form(line: &[u8]) -> u8
-    ensures { result ≡ form_of line.now }
+// The verdict of a line where nothing is declared yet; a comment has none.
+pub fn form(line: &[u8]) -> Option<Verdict>
+    ensures { result ≡ first_verdict line.now }
 {
     if !is_named(line) {
-        return COMMENT;
+        return None;
     }
     if is_formed(line) {
-        return verdicts::UNDECLARED;
+        return Some(Verdict::Undeclared);
     }
-    verdicts::MALFORMED
+    Some(Verdict::Malformed)
 }
 
 // Dependency j of the chunk s is the line's parent.
@@ -95,15 +92,5 @@ pub fn declares(s: &[u8], n: usize, line: &[u8]) -> bool
 {
     let own = &s[places::SUB_FORMAT..places::SUB_FORMAT_END];
     let child = &line[parts::CHILD_NAME..parts::CHILD_NAME_END];
-    if !search::same_bytes(own, child) {
-        return false;
-    }
-    let mut j: usize = 0;
-    while j < n {
-        if is_parent(s, j, line) {
-            return true;
-        }
-        j += 1;
-    }
-    false
+    search::same_bytes(own, child) && (0..n).any(|j| is_parent(s, j, line))
 }

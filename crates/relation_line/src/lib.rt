@@ -1,7 +1,7 @@
 // One line of a relation chunk's text ("a heading line, then lines of five fields divided by tabs"): known by its name, judged,
 // compared with a chunk's header, and put into a buffer. The contracts cite the crate metafile (specs/Relations).
 //     parts      where the fields of a well-formed line stand
-//     verdicts   what is said of a line, as numbers
+//     verdicts   what is said of a line, and its number
 //     judge      the form of a line, and whether a chunk declares it
 //     write      the heading line, and the line of one dependency
 #![tactic(auto)]
@@ -12,10 +12,11 @@ ghost use Rattle.metafile.specs.Relations.{relations_name, heading};
 
 mod judge;
 pub mod parts;
-pub mod verdicts;
+mod verdicts;
 mod write;
 
 pub use judge::{declares, form, is_named};
+pub use verdicts::Verdict;
 pub use write::{put_heading, put_line};
 
 // Whether the 256 bytes of a sub-format name a relation chunk: the name, padded with spaces.
@@ -23,11 +24,7 @@ pub fn is_relations(id: &[u8]) -> bool
     requires { length id.now ≡ 256 }
     ensures { result ≡ same id.now relations_name }
 {
-    if search::same_bytes(&id[..17], b"ADS\\SYS\\Relations") {
-        let spaces = [b' '; 239];
-        return search::same_bytes(&id[17..], &spaces);
-    }
-    false
+    table::names::is_padded(id, b"ADS\\SYS\\Relations")
 }
 
 pub fn is_heading(line: &[u8]) -> bool

@@ -1,7 +1,6 @@
 -- The list of verdicts from the first row to the last, and the outcome from the tests.
 --     judging-none judging-tail judging-next judging-length judging-all   the verdicts by no row, by more rows, by all
 --     judged-tail               what is behind the verdicts stays
---     first-line                the text's first line
 --     text-20 text-18 text-checked   the answers over a text
 --     name-given contents-given   the row's name and contents, as they are handed on
 --     refused-row refused-19 check-is   the answers of the call
@@ -9,19 +8,22 @@
 use Prim.Native.Nat.{ℕ, ◌+◌, ◌-◌, ◌≤◌, ◌<◌}
 use mathlib.Core.Bool.{Bool, true, false, not}
 use mathlib.Core.Path.{◌≡◌, sym, ap, ◌∙◌}
-use mathlib.Core.List.{List, [], ◌∷◌, ◌++◌}
+use mathlib.Core.List.{List, [], ◌++◌}
 use native.Mathlib.Nat.{zero-add}
 use native.Mathlib.Omega.{arith}
 use lib.ListN.{length, take, drop, length-append}
 use lib.Seq.{drop_at, drop-drop}
 use borrow.Author.Tests.{lt-ltb, le-ltb}
-use Rattle.metafile.specs.declared.RelationsCheckAnswer.TheVariants.{Checked, Refused}
-use Rattle.metafile.specs.Bytes.{same, find}
+use Rattle.std.specs.declared.result.Result.TheVariants.{Ok, Err}
+use Rattle.metafile.specs.declared.refusal.Refusal.{Refusal}
+use Rattle.metafile.specs.declared.refusal.Refusal.TheVariants.{NoRoom, NotRelations, Heading}
+use Rattle.metafile.specs.Refusals.{number_of}
+use Rattle.metafile.specs.Bytes.{same}
 use Rattle.metafile.specs.Lines.{first_of}
 use Rattle.metafile.specs.Chunk.{sub_format}
 use Rattle.metafile.specs.Reading.{rows_of}
 use Rattle.metafile.specs.Append.{row_no}
-use Rattle.metafile.specs.Answers.{relations_check_answer, outcome, placed, unless_refused}
+use Rattle.metafile.specs.Answers.{outcome, placed, unless_refused, count_answer}
 use Rattle.metafile.specs.Calls.{chunk_of, row_contents}
 use Rattle.metafile.specs.Below.{any_below}
 use Rattle.metafile.specs.Relations.{relations_name, is_relations, split_on, heading, is_declared, verdicts_by, verdicts, contents_lines, relations_check_tests, relations_check}
@@ -29,11 +31,12 @@ use Rattle.laws.proofs.Accepted.{refusal-first, refusal-next, tests-end}
 use Rattle.laws.proofs.Outcomes.{outcome-refused, outcome-done}
 use Rattle.laws.proofs.Lists.{part-long}
 use Rattle.walk.specs.declared.cursor.Cursor.{Cursor}
-use Rattle.walk.specs.Cursor.{named_of}
-use Rattle.walk.proofs.Named.{tests-on, Named, refused as row-refused}
+use Rattle.walk.specs.Cursor.{named_of, cursor_none}
+use Rattle.lines.proofs.Runs.{refused}
+use Rattle.walk.proofs.Named.{tests-on, Named, refused_by}
 use Rattle.relations_check.specs.Judged.{never, declared_below, Judging}
 use Rattle.relations_check.specs.Outcome.{judged, checked_text}
-use Rattle.relations_check.proofs.Lines.{rest-start, rest-step, verdicts-long}
+use Rattle.relations_check.proofs.Lines.{verdicts-long}
 
 -- ---- from the first row to the last
 
@@ -74,15 +77,9 @@ judging-all file k text list₀ list e w t =
 
 -- ---- over a text
 
-pub first-line : (text : List ℕ) (e : ℕ) → e ≡ find (10 ∷ []) (drop 0 text) → first_of (split_on 10 text) ≡ take e text
-unfolding first_of
-first-line text e is =
-    let all : e - 0 ≡ e = omega arith in
-    ap first_of (sym (rest-start text) ∙ rw all at (rest-step text 0 e (omega arith) (is ∙ sym (zero-add _))))
-
 module _ (file text list : List ℕ) where
-  pub text-20 : (b : Bool) → b ≡ same (first_of (split_on 10 text)) heading → b ≡ false → outcome (relations_check_answer (Refused 20)) list ≡ checked_text file text list
-  unfolding checked_text relations_check_answer
+  pub text-20 : (b : Bool) → b ≡ same (first_of (split_on 10 text)) heading → b ≡ false → outcome (count_answer (Err Heading)) list ≡ checked_text file text list
+  unfolding checked_text count_answer
   text-20 b e z = outcome-refused _ list _ 20 (sym (refusal-first 20 _ _ (ap not (sym e ∙ z)))) (λ q. omega arith)
 
   module _ (b : Bool) (e : b ≡ same (first_of (split_on 10 text)) heading) (y : b ≡ true) (n : ℕ) (is : n ≡ length (verdicts_by never (split_on 10 text))) where
@@ -90,14 +87,14 @@ module _ (file text list : List ℕ) where
     unfolding verdicts
     count-is = is ∙ sym (verdicts-long (is_declared file) (split_on 10 text))
 
-    pub text-18 : length list < n → outcome (relations_check_answer (Refused 18)) list ≡ checked_text file text list
-    unfolding checked_text relations_check_answer
+    pub text-18 : length list < n → outcome (count_answer (Err NoRoom)) list ≡ checked_text file text list
+    unfolding checked_text count_answer
     text-18 h =
         let short : length list < length (verdicts file (split_on 10 text)) = omega (arith, count-is) in
         outcome-refused _ list _ 18 (sym (refusal-next 20 _ _ (ap not (sym e ∙ y)) ∙ refusal-first 18 _ [] (lt-ltb _ _ short))) (λ q. omega arith)
 
-    pub text-checked : n ≤ length list → (last : List ℕ) → last ≡ judged file text list → outcome (relations_check_answer (Checked n)) last ≡ checked_text file text list
-    unfolding checked_text relations_check_answer
+    pub text-checked : n ≤ length list → (last : List ℕ) → last ≡ judged file text list → outcome (count_answer (Ok n)) last ≡ checked_text file text list
+    unfolding checked_text count_answer
     text-checked h last p =
         let room : length (verdicts file (split_on 10 text)) ≤ length list = omega (arith, count-is) in
         rw (count-is, p) (outcome-done _ list _ (refusal-next 20 _ _ (ap not (sym e ∙ y)) ∙ refusal-next 18 _ [] (le-ltb _ _ room) ∙ tests-end))
@@ -124,13 +121,13 @@ contents-given file k own w =
     rw (n, ← w.contents-is, ← w.bytes-is)
 
 module _ (file : List ℕ) (k : ℕ) (list : List ℕ) where
-  pub refused-row : (own : Cursor) → own ≡ named_of file k → (own.number ≡ 0 → ⊥) → outcome (relations_check_answer (Refused own.number)) list ≡ relations_check file k list
-  unfolding relations_check relations_check_tests relations_check_answer
-  refused-row own e z = outcome-refused _ list _ own.number (sym (row-refused file k own e z _)) z
+  pub refused-row : (r : Refusal) → cursor_none (number_of r) ≡ named_of file k → outcome (count_answer (Err r)) list ≡ relations_check file k list
+  unfolding relations_check relations_check_tests count_answer
+  refused-row r e = outcome-refused _ list _ (number_of r) (sym (refused_by file k r e _)) (refused r)
 
   module _ (own : Cursor) (w : Named file k own) where
-    pub refused-19 : (b : Bool) → b ≡ is_relations (chunk_of file k) → b ≡ false → outcome (relations_check_answer (Refused 19)) list ≡ relations_check file k list
-    unfolding relations_check relations_check_tests relations_check_answer
+    pub refused-19 : (b : Bool) → b ≡ is_relations (chunk_of file k) → b ≡ false → outcome (count_answer (Err NotRelations)) list ≡ relations_check file k list
+    unfolding relations_check relations_check_tests count_answer
     refused-19 b e z =
         outcome-refused _ list _ 19 (sym (tests-on _ _ k _ w.file-small w.in_rows ∙ refusal-first 19 _ _ (ap not (sym e ∙ z)))) (λ q. omega arith)
 

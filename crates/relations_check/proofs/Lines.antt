@@ -1,56 +1,84 @@
--- The lines of a text from a place on, as a loop goes over them, and their verdicts in a list.
---     rest_of rest-start rest-step rest_end   the lines from a place on
---     named-form other-form   a line with the name, and one without
---     verdicts-comment verdicts-line verdicts-long verdicts-end   verdicts of one line more; how many don't depend on the rows
---     head-is drop-next    the rest of a list, and its first entry
---     Listing listing-..   the list while the lines are gone through
+-- The lines of a text, as an iterator yields them, and their verdicts in a list.
+--     line-last line-before lines-few   the first line, and those behind it; how many there are at most
+--     verdicts-comment verdicts-line verdicts-long   verdicts of one line more; how many don't depend on the rows
+--     headed                 the text's first line is the heading line
+--     numbered               where an item of a numbered list stands
+--     verdicts-named verdicts-formed   the verdicts, by the lines that have the name, and by their forms
+--     named-at formed-at named-long forms-long   one of them, and how many there are
+--     form-other form-named named-form form-never   a line with the name, and one without
+--     named-of front-of      a line among those that have the name, an entry in front of a list
+--     Written written-..     a list in which the first verdicts are written
 -- Assumes nothing.
-use Prim.Native.Nat.{ℕ, suc, ◌+◌, ◌-◌, ◌≤◌, ◌<◌}
-use mathlib.Core.Bool.{Bool, true, false, cond}
+use Prim.Native.Nat.{ℕ, suc, ◌+◌, ◌≤◌, ◌<◌}
+use mathlib.Core.Bool.{Bool, true, false}
 use mathlib.Core.Path.{◌≡◌, refl, sym, ap, ◌∙◌}
-use mathlib.Core.List.{List, [], ◌∷◌, ◌++◌, append-nil, append_assoc}
+use mathlib.Core.List.{List, [], ◌∷◌, ◌++◌, map}
+use native.Mathlib.Nat.{zero-add}
 use native.Mathlib.Omega.{arith}
-use lib.Dec.{leb}
-use lib.ListN.{length, take, drop, get_or, set, length-drop}
-use lib.Seq.{take_all, take-suc-set, drop-set-lt, get_or-drop, drop-drop}
-use borrow.Author.Tests.{leb-true, leb-false, le-leb, lt-leb}
-use Rattle.metafile.specs.Bytes.{is_zero, find}
-use Rattle.metafile.specs.Relations.{split_on, well_formed, verdict_by, verdicts_by}
+use lib.Dec.{eqb}
+use lib.ListN.{length, take, drop, get_or, set, length-drop, length-append, length-take, take-append-drop, get_or-append}
+use lib.Seq.{take_all, take_at, take-suc, take-suc-set, drop_at, drop-set-lt, get_or-drop, drop-drop}
+use denote.Ref.{Bor}
+use Rattle.std.specs.Prelude.{Option, None, Some}
+use Rattle.std.specs.Option.{MatchOption}
+use Rattle.std.specs.List.{filter, filter_map, cons_option, enumerate_from}
+use Rattle.std.proofs.lemmas.List.{get_or-map, length-map}
+use Rattle.std.proofs.lemmas.List.Elements.{All-get_or, filter_passes}
+use Rattle.std.proofs.lemmas.List.FromFn.{length-enumerate_from, get_or-enumerate_from}
+use Rattle.metafile.specs.Bytes.{is_zero, same, find}
+use Rattle.metafile.specs.Lines.{first_of}
+use Rattle.metafile.specs.Relations.{divided, onto_first, split_on, heading, well_formed, verdict_by, verdicts_by}
 use Rattle.laws.proofs.First.{test, untrue}
-use Rattle.laws.proofs.Lists.{find-fits}
 use Rattle.laws.proofs.Split.{split_at, split-end}
-use Rattle.relation_line.specs.Form.{has_name, form_of}
+use Rattle.relation_line.specs.Form.{has_name, form_of, verdict_number, first_verdict, form_number}
+use Rattle.relation_line.specs.declared.verdicts.Verdict.{Verdict}
+use Rattle.relation_line.specs.declared.verdicts.Verdict.TheVariants.{Declared, Undeclared, Malformed}
+use Rattle.relation_line.proofs.Forms.{verdict-form}
 use Rattle.relations_check.specs.Judged.{never}
 
--- ---- the lines from a place on
+-- ---- lines
 
-unfoldable pub rest_of : List ℕ → ℕ → List (List ℕ)
-rest_of text p = cond (leb p (length text)) (split_on 10 (drop p text)) []
+-- the first line ends at e
+module _ (text : List ℕ) (e : ℕ) (is : e ≡ find (10 ∷ []) text) where
+  pub line-last : length text ≤ e → split_on 10 text ≡ take e text ∷ []
+  line-last h =
+      let far : length text ≤ find (10 ∷ []) text = omega arith in
+      split-end 10 text far ∙ ap (λ (l : List ℕ). l ∷ []) (sym (take_all e text h))
 
-pub rest-start : (text : List ℕ) → rest_of text 0 ≡ split_on 10 text
-unfolding rest_of
-rest-start text = rw (le-leb 0 (length text) (omega arith))
+  pub line-before : e < length text → split_on 10 text ≡ take e text ∷ split_on 10 (drop (e + 1) text)
+  line-before h =
+      let near : find (10 ∷ []) text < length text = omega arith in
+      let next : suc (find (10 ∷ []) text) ≡ e + 1 = omega arith in
+      rw (next, ← is) at (split_at 10 text near)
 
-pub rest_end : (text : List ℕ) (p : ℕ) → length text < p → rest_of text p ≡ []
-unfolding rest_of
-rest_end text p h = rw (lt-leb p (length text) h)
+-- a text headed by its first line
+pub headed : (ls rest : List (List ℕ)) (first : Option (Bor (List ℕ))) (b : Bool) (P : Bor (List ℕ) → Type 0)
+    → MatchOption first ((ls ≡ []) × (rest ≡ [])) (λ l. ls ≡ l.now ∷ rest) → MatchOption first (b ≡ false) P
+    → ((l : Bor (List ℕ)) → P l → b ≡ same l.now heading) → b ≡ same (first_of ls) heading
+unfolding first_of heading divided same
+headed ls rest None b P e h by = rw e.0 h
+headed ls rest (Some l) b P e h by = rw e (by l h)
 
-pub rest-step : (text : List ℕ) (p e : ℕ) → p ≤ length text → e ≡ p + find (10 ∷ []) (drop p text)
-    → rest_of text p ≡ take (e - p) (drop p text) ∷ rest_of text (e + 1)
-unfolding rest_of
-rest-step text p e h is =
-    let s = drop p text in
-    let f = find (10 ∷ []) s in
-    let long = length-drop p text in
-    let steps : e - p ≡ f = omega arith in
-    test (leb (e + 1) (length text))
-    (λ q.
-    let near : f < length s = omega (arith, leb-true (e + 1) (length text) q, long) in
-    let next : e + 1 ≡ p + suc f = omega arith in
-    rw (le-leb p (length text) h, q, steps, split_at 10 s near, next, ← drop-drop (suc f) p text))
-    (λ q.
-    let far : length s ≤ f = omega (arith, leb-false (e + 1) (length text) q, long, find-fits (10 ∷ []) s) in
-    rw (le-leb p (length text) h, q, steps, split-end 10 s far, take_all f s far))
+onto-long : (x n : ℕ) (ls : List (List ℕ)) → length ls ≤ n + 1 → length (onto_first x ls) ≤ n + 1
+unfolding onto_first
+onto-long x n [] h = omega arith
+onto-long x n (l ∷ ls) h = h
+
+pub lines-few : (d : ℕ) (text : List ℕ) → length (split_on d text) ≤ length text + 1
+unfolding split_on
+lines-few d [] = omega arith
+lines-few d (x ∷ xs) =
+    let h = lines-few d xs in
+    let more = onto-long x (length xs) (split_on d xs) h in
+    test (eqb x d) (λ q. rw q (omega (arith, h))) (λ q. rw q (omega (arith, more)))
+
+-- where the item of a numbered list stands
+pub numbered : {X : Type 0} (xs : List X) (k i : ℕ) (x : X) → (k < length (enumerate_from 0 xs)) × ((i, x) ≡ get_or (enumerate_from 0 xs) k (i, x))
+    → (k < length xs) × (i ≡ k) × (x ≡ get_or xs k x)
+numbered xs k i x h =
+    let less : k < length xs = omega (arith, h.0, length-enumerate_from 0 xs) in
+    let is = h.1 ∙ get_or-enumerate_from 0 xs k (i, x) less in
+    (less, ap (λ p. p.0) is ∙ zero-add k, ap (λ p. p.1) is)
 
 -- ---- verdicts
 
@@ -84,11 +112,6 @@ verdicts-long test' (l ∷ ls) =
     (λ e. rw (verdicts-line test' l ls e, verdicts-line never l ls e) (ap suc (verdicts-long test' ls)))
     (λ e. rw (verdicts-comment test' l ls e, verdicts-comment never l ls e) (verdicts-long test' ls))
 
--- behind the last line nothing is left to count
-pub verdicts-end : (text : List ℕ) (p n m : ℕ) → length text < p → n + length (verdicts_by never (rest_of text p)) ≡ m → n ≡ m
-unfolding verdicts_by
-verdicts-end text p n m h e = omega (arith, rw (rest_end text p h) at e)
-
 -- a line's form says whether it has the name
 module _ (l : List ℕ) where
   pub form-other : form_of l ≡ 0 → has_name l ≡ false
@@ -106,51 +129,109 @@ pub form-never : (l : List ℕ) → form_of l ≡ verdict_by never l
 unfolding form_of never
 form-never l = refl
 
--- ---- the rest of a list
+-- the verdicts, by the lines that have the name
+pub verdicts-named : (test' : List (List ℕ) → Bool) (ls : List (List ℕ)) → verdicts_by test' ls ≡ map (verdict_by test') (filter has_name ls)
+verdicts-named test' [] = unfold verdicts_by in refl
+verdicts-named test' (l ∷ ls) =
+    test (has_name l)
+    (λ e. rw e (verdicts-line test' l ls e ∙ ap (λ (vs : List ℕ). verdict_by test' l ∷ vs) (verdicts-named test' ls)))
+    (λ e. rw e (verdicts-comment test' l ls e ∙ verdicts-named test' ls))
 
--- what stands first in it
-pub head-is : (list : List ℕ) (i v : ℕ) (vs : List ℕ) → drop i list ≡ v ∷ vs → (i < length list) × (get_or list i 0 ≡ v) × (drop (i + 1) list ≡ vs)
-head-is list i v vs e =
-    let long = ap length e in
-    let here : i + 0 ≡ i = omega arith in (
-      omega (arith, long, length-drop i list),
-      sym (get_or-drop i list 0 0 ∙ ap (λ (n : ℕ). get_or list n 0) here) ∙ ap (λ (xs : List ℕ). get_or xs 0 0) e,
-      sym (drop-drop 1 i list) ∙ ap (drop 1) e,
-    )
+-- each verdict has a number that isn't 0
+number-some : (v : Verdict) → verdict_number v ≡ 0 → ⊥
+number-some Declared e = omega arith
+number-some Undeclared e = omega arith
+number-some Malformed e = omega arith
 
--- the same behind an entry that is written
-pub drop-next : (a b : List ℕ) (i v : ℕ) → drop i a ≡ drop i b → drop (i + 1) (set a i v) ≡ drop (i + 1) b
-drop-next a b i v e = drop-set-lt (i + 1) a i v (omega arith) ∙ sym (drop-drop 1 i a) ∙ ap (drop 1) e ∙ drop-drop 1 i b
+formed-line : (l : List ℕ) (ls : List (List ℕ)) (form : Option Verdict) → first_verdict l ≡ form
+    → verdicts_by never (l ∷ ls) ≡ map verdict_number (cons_option form []) ++ verdicts_by never ls
+formed-line l ls None e =
+    verdicts-comment never l ls (form-other l (sym (verdict-form l) ∙ ap form_number e))
+formed-line l ls (Some v) e =
+    let number : form_of l ≡ verdict_number v = sym (verdict-form l) ∙ ap form_number e in
+    verdicts-line never l ls (form-named l (λ z. number-some v (sym number ∙ z)))
+    ∙ ap (λ (n : ℕ). n ∷ verdicts_by never ls) (sym (form-never l) ∙ number)
 
--- ---- the list while the lines are gone through: verdicts in its first i entries, and the lines that are left
+formed-cons : (form : Option Verdict) (vs : List ℕ) (forms : List Verdict) → vs ≡ map verdict_number forms
+    → map verdict_number (cons_option form []) ++ vs ≡ map verdict_number (cons_option form forms)
+formed-cons None vs forms e = e
+formed-cons (Some v) vs forms e = ap (λ (l : List ℕ). verdict_number v ∷ l) e
 
-pub record Listing (test' : List (List ℕ) → Bool) (all rest : List (List ℕ)) (i : ℕ) (list : List ℕ) : Type 0 where
-  pub front : take i list ++ verdicts_by test' rest ≡ verdicts_by test' all
-  pub room : i + length (verdicts_by never rest) ≡ length (verdicts_by never all)
+-- the verdicts, by the forms of the lines
+pub verdicts-formed : (ls : List (List ℕ)) → verdicts_by never ls ≡ map verdict_number (filter_map first_verdict ls)
+verdicts-formed [] = unfold verdicts_by in refl
+verdicts-formed (l ∷ ls) = formed-line l ls (first_verdict l) refl ∙ formed-cons (first_verdict l) _ _ (verdicts-formed ls)
 
-module _ {test' : List (List ℕ) → Bool} {all : List (List ℕ)} where
-  pub listing_none : (list : List ℕ) → Listing test' all all 0 list
-  listing_none list = record { front = refl; room = omega arith }
+-- the verdict of a line among those that have the name, and of one among the forms
+pub named-at : (test' : List (List ℕ) → Bool) (ls : List (List ℕ)) (k : ℕ) (l : List ℕ) → k < length (filter has_name ls)
+    → l ≡ get_or (filter has_name ls) k l → verdict_by test' l ≡ get_or (verdicts_by test' ls) k 0
+named-at test' ls k l h e =
+    rw (verdicts-named test' ls, get_or-map (verdict_by test') (filter has_name ls) k l 0 h) (ap (verdict_by test') e)
 
-  module _ {i : ℕ} {list : List ℕ} where
-    pub listing-comment : {l : List ℕ} {rest : List (List ℕ)} → has_name l ≡ false → Listing test' all (l ∷ rest) i list → Listing test' all rest i list
-    listing-comment {l} {rest} e w =
-        record { front = rw (← verdicts-comment test' l rest e) w.front; room = rw (← verdicts-comment never l rest e) w.room }
+pub formed-at : (ls : List (List ℕ)) (k : ℕ) (v : Verdict) → k < length (filter_map first_verdict ls)
+    → v ≡ get_or (filter_map first_verdict ls) k v → verdict_number v ≡ get_or (verdicts_by never ls) k 0
+formed-at ls k v h e =
+    rw (verdicts-formed ls, get_or-map verdict_number (filter_map first_verdict ls) k v 0 h) (ap verdict_number e)
 
-    pub listing-line : {l : List ℕ} {rest : List (List ℕ)} → has_name l ≡ true → i < length list → {v : ℕ} → v ≡ verdict_by test' l → Listing test' all (l ∷ rest) i list
-        → Listing test' all rest (i + 1) (set list i v)
-    listing-line {l} {rest} e h {v} is w =
-        let next : i + 1 ≡ suc i = omega arith in
-        let longer = rw (verdicts-line never l rest e) at w.room in
-        record {
-          front = rw (next, take-suc-set list i v h, is) (append_assoc (take i list) (verdict_by test' l ∷ []) (verdicts_by test' rest) ∙ rw (← verdicts-line test' l rest e) w.front);
-          room = omega (arith, longer);
-        }
+pub forms-long : (ls : List (List ℕ)) → length (filter_map first_verdict ls) ≡ length (verdicts_by never ls)
+forms-long ls = sym (ap length (verdicts-formed ls) ∙ length-map (filter_map first_verdict ls) verdict_number)
 
-    -- a line is left: its verdict has room
-    pub listing-room : {l : List ℕ} {rest : List (List ℕ)} → has_name l ≡ true → Listing test' all (l ∷ rest) i list → i < length (verdicts_by never all)
-    listing-room {l} {rest} e w = omega (arith, rw (verdicts-line never l rest e) at w.room)
+pub named-long : (test' : List (List ℕ) → Bool) (ls : List (List ℕ)) → length (filter has_name ls) ≡ length (verdicts_by test' ls)
+named-long test' ls = sym (ap length (verdicts-named test' ls) ∙ length-map (filter has_name ls) (verdict_by test'))
 
-    pub listing-end : Listing test' all [] i list → (take i list ≡ verdicts_by test' all) × (i ≡ length (verdicts_by never all))
-    unfolding verdicts_by
-    listing-end w = (sym (append-nil (take i list)) ∙ w.front, omega (arith, w.room))
+-- a line among those that have the name has it
+pub named-of : (ls : List (List ℕ)) (k : ℕ) (l : List ℕ) → k < length (filter has_name ls)
+    → l ≡ get_or (filter has_name ls) k l → has_name l ≡ true
+named-of ls k l h e = ap has_name e ∙ All-get_or (λ (x : List ℕ). has_name x ≡ true) (filter has_name ls) k l h (filter_passes has_name ls)
+
+-- an entry in front of a list
+pub front-of : (list front rest : List ℕ) (k : ℕ) → list ≡ front ++ rest → k < length front → get_or list k 0 ≡ get_or front k 0
+front-of list front rest k e h = rw e (get_or-append front rest 0 k h)
+
+-- ---- a list in which the first k of these are written, and which has what it had behind them
+
+pub record Written (all old now : List ℕ) (k : ℕ) : Type 0 where
+  pub is : now ≡ take k all ++ drop k old
+
+pub written-none : (all list : List ℕ) → Written all list list 0
+written-none all list = record { is = refl }
+
+module _ {all old now : List ℕ} {k : ℕ} (w : Written all old now k) (h : k ≤ length all) (room : length all ≤ length old) where
+  front-long : length (take k all) ≡ k
+  front-long = omega (arith, length-take k all)
+
+  pub written-long : length now ≡ length old
+  written-long = rw w.is (simp (length-append, length-drop) (omega (arith, front-long)))
+
+  written-front : take k now ≡ take k all
+  written-front = rw w.is (take_at (take k all) (drop k old) k front-long)
+
+  written-rest : drop k now ≡ drop k old
+  written-rest = rw w.is (drop_at (take k all) (drop k old) k front-long)
+
+  pub written-kept : get_or now k 0 ≡ get_or old k 0
+  written-kept =
+      let here : k + 0 ≡ k = omega arith in
+      rw here at (sym (get_or-drop k now 0 0) ∙ ap (λ (l : List ℕ). get_or l 0 0) written-rest ∙ get_or-drop k old 0 0)
+
+  pub written-next : k < length all → (v : ℕ) → v ≡ get_or all k 0 → Written all old (set now k v) (k + 1)
+  written-next less v e =
+      let next : k + 1 ≡ suc k = omega arith in
+      let inside : k < length now = omega (arith, written-long) in
+      let rest : drop (k + 1) now ≡ drop (k + 1) old = sym (drop-drop 1 k now) ∙ ap (drop 1) written-rest ∙ drop-drop 1 k old in
+      record {
+        is =
+            sym (take-append-drop (k + 1) (set now k v))
+            ∙ rw (
+              next,
+              take-suc-set now k v inside,
+              written-front,
+              e,
+              take-suc all k 0 less,
+            )
+            (ap (λ (l : List ℕ). (take k all ++ get_or all k 0 ∷ []) ++ l)
+            (drop-set-lt (suc k) now k (get_or all k 0) (omega arith) ∙ rw next at rest));
+      }
+
+  pub written-end : k ≡ length all → now ≡ all ++ drop (length all) old
+  written-end e = w.is ∙ rw e (ap (λ (l : List ℕ). l ++ drop (length all) old) (take_all (length all) all (omega arith)))

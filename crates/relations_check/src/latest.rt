@@ -10,10 +10,10 @@ use crate::row::is_relations;
 use table::places;
 use walk::Cursor;
 
-// The relations row that holds among the rows so far.
+// A relations row that holds among some rows.
 #[derive(Clone, Copy)]
 pub struct Latest {
-    // at that row; it doesn't go where there is none
+    // at that row
     pub own: Cursor,
     pub day: u32,
 }
@@ -29,8 +29,8 @@ fn writing_day(file: &[u8], c: Cursor) -> u32
     fields::day_number(day)
 }
 
-// The one that holds once the row of a cursor is passed.
-fn later(file: &[u8], c: Cursor, best: Latest) -> Latest
+// The one that holds once the row of a cursor is passed; `best` holds before it, if one does.
+fn later(file: &[u8], c: Cursor, best: Option<Latest>) -> Option<Latest>
     requires at_row { AtRow file.now c }
     requires holding { Holding file.now c.row best }
     ensures { Holding file.now (c.row + 1) result }
@@ -39,33 +39,24 @@ fn later(file: &[u8], c: Cursor, best: Latest) -> Latest
         return best;
     }
     let day = writing_day(file, c);
-    if best.day <= day {
-        return Latest { own: c, day };
+    match best {
+        Some(other) if day < other.day => best,
+        _ => Some(Latest { own: c, day }),
     }
-    best
 }
 
-// Behind the last row, and at the relations row that holds.
-#[derive(Clone, Copy)]
-pub struct Choice {
-    pub end: Cursor,
-    pub own: Cursor,
-}
-
-// All rows are gone through once.
-pub fn choose(file: &[u8], first: Cursor, index: &mut [u32]) -> Choice
+// The cursor behind the last row, and the relations row that holds: all rows are gone through once.
+pub fn choose(file: &[u8], first: Cursor, index: &mut [u32]) -> (Cursor, Option<Latest>)
     requires at { At file.now first index.old }
     requires row_value { first.row ≡ 0 }
     requires file_len_bound { length file.now ≤ 1073741824 }
-    ensures { Chosen file.now result × (length index.new ≡ size) }
+    ensures { Chosen file.now result.0 result.1 × (length index.new ≡ size) }
 {
-    let none = walk::none(0);
-    let mut best = Latest { own: none, day: 0 };
+    let mut best = None;
     let mut c = first;
     while c.go {
         best = later(file, c, best);
         c = walk::next(file, c, walk::ALL, index);
     }
-    let own = best.own;
-    Choice { end: c, own }
+    (c, best)
 }

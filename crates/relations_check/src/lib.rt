@@ -11,14 +11,15 @@
 #![tactic(auto)]
 
 ghost use Rattle.std.specs.Prelude.{◌≡◌, ◌≤◌, length};
-ghost use Rattle.metafile.specs.Answers.{outcome, relations_check_answer, relations_latest_answer};
+ghost use Rattle.metafile.specs.Answers.{outcome, count_answer, checked_answer};
 ghost use Rattle.metafile.specs.Relations.{relations_check, relations_check_latest};
 ghost use Rattle.index.specs.Index.{size};
 ghost use Rattle.walk.specs.Known.{Ended};
 ghost use Rattle.relations_check.specs.Judged.{Judging};
 ghost use Rattle.relations_check.specs.Outcome.{judged, checked_text};
 
-use metafile::{LIMIT, RelationsCheckAnswer, RelationsLatestAnswer, refusals};
+use crate::window::Rows;
+use metafile::{CheckedRow, Refusal, over_limit};
 use walk::Cursor;
 
 mod latest;
@@ -39,10 +40,15 @@ fn judge_rows(file: &[u8], end: Cursor, d: &mut [u32], text: &[u8], verdicts: &m
     let mut k: usize = 0;
     while k < end.row {
         directory::clear(d);
-        let w = window::fill(file, h, k, at, end.row, d);
-        text_lines::judge(file, d, w, text, verdicts);
-        k = w.from + w.entries;
-        at = w.end;
+        let window = window::fill(file, h, k, at, end.row, d);
+        let rows = Rows {
+            file,
+            directory: d,
+            window,
+        };
+        rows.judge(text, verdicts);
+        k = window.from + window.entries;
+        at = window.end;
     }
 }
 
@@ -53,58 +59,54 @@ fn check_text(
     d: &mut [u32],
     text: &[u8],
     verdicts: &mut [u32],
-) -> RelationsCheckAnswer
+) -> Result<usize, Refusal>
     requires ended { Ended file.now end }
     requires file_len_bound { length file.now ≤ 1073741824 }
     requires d_len { length d.old ≡ size }
-    ensures { outcome (relations_check_answer result) verdicts.new ≡ checked_text file.now text.now verdicts.old }
+    ensures { outcome (count_answer result) verdicts.new ≡ checked_text file.now text.now verdicts.old }
 {
-    if !relation_line::is_heading(&text[..text_lines::line_end(text, 0)]) {
-        return RelationsCheckAnswer::Refused(refusals::HEADING);
+    if !text_lines::is_headed(text) {
+        return Err(Refusal::Heading);
     }
     let n = text_lines::count(text);
     if verdicts.len() < n {
-        return RelationsCheckAnswer::Refused(refusals::NO_ROOM);
+        return Err(Refusal::NoRoom);
     }
     text_lines::put_forms(text, verdicts);
     judge_rows(file, end, d, text, verdicts);
-    RelationsCheckAnswer::Checked(n)
+    Ok(n)
 }
 
 // Tests 11, 13, 19, 20, 18.
-pub fn check(file: &[u8], row: usize, verdicts: &mut [u32]) -> RelationsCheckAnswer
-    ensures { outcome (relations_check_answer result) verdicts.new ≡ relations_check file.now row verdicts.old }
+pub fn check(file: &[u8], row: usize, verdicts: &mut [u32]) -> Result<usize, Refusal>
+    ensures { outcome (count_answer result) verdicts.new ≡ relations_check file.now row verdicts.old }
 {
     let mut index = [0u32; walk::INDEX];
-    let own = walk::row_of(file, row, walk::ALL, &mut index);
-    if own.number != 0 {
-        return RelationsCheckAnswer::Refused(own.number);
-    }
+    let own = walk::row_of(file, row, walk::ALL, &mut index)?;
     if !row::is_relations(file, own) {
-        return RelationsCheckAnswer::Refused(refusals::NOT_RELATIONS);
+        return Err(Refusal::NotRelations);
     }
     let end = walk::last(file, own, &mut index);
     check_text(file, end, &mut index, row::contents(file, own), verdicts)
 }
 
 // The row that holds, where none is named. Tests 11, 13, 20, 18.
-pub fn check_latest(file: &[u8], verdicts: &mut [u32]) -> RelationsLatestAnswer
-    ensures { outcome (relations_latest_answer result) verdicts.new ≡ relations_check_latest file.now verdicts.old }
+pub fn check_latest(file: &[u8], verdicts: &mut [u32]) -> Result<CheckedRow, Refusal>
+    ensures { outcome (checked_answer result) verdicts.new ≡ relations_check_latest file.now verdicts.old }
 {
-    if LIMIT < file.len() {
-        return RelationsLatestAnswer::Refused(refusals::OVER_LIMIT);
+    if over_limit(&[file.len()]) {
+        return Err(Refusal::OverLimit);
     }
     let mut index = [0u32; walk::INDEX];
     let first = walk::first(file, walk::ALL, &mut index);
-    let choice = latest::choose(file, first, &mut index);
-    let own = choice.own;
-    if !own.go {
-        return RelationsLatestAnswer::Refused(refusals::NO_ROW);
-    }
-    let end = choice.end;
-    let answer = check_text(file, end, &mut index, row::contents(file, own), verdicts);
-    match answer {
-        RelationsCheckAnswer::Checked(n) => RelationsLatestAnswer::Checked(n, own.row),
-        RelationsCheckAnswer::Refused(number) => RelationsLatestAnswer::Refused(number),
-    }
+    let (end, latest) = latest::choose(file, first, &mut index);
+    let Some(latest) = latest else {
+        return Err(Refusal::NoRow);
+    };
+    let own = latest.own;
+    let count = check_text(file, end, &mut index, row::contents(file, own), verdicts)?;
+    Ok(CheckedRow {
+        count,
+        row: own.row,
+    })
 }

@@ -1,90 +1,100 @@
-// The lines of a relation chunk's text, each gone through once by every function here: "A last line may lack its LF."
-ghost use Rattle.std.specs.Prelude.{◌≡◌, true, [], ◌∷◌, ◌++◌, ◌+◌, ◌≤◌, length, drop};
-ghost use Rattle.metafile.specs.Bytes.{find};
-ghost use Rattle.metafile.specs.Relations.{split_on, verdict_by, verdicts_by};
+// The lines of a relation chunk's text, and their verdicts: "A last line may lack its LF."
+ghost use Rattle.std.specs.Prelude.{◌≡◌, true, ◌++◌, ◌+◌, ◌≤◌, length, drop};
+ghost use Rattle.std.specs.Iterator.{YieldsFirstRef, item_count};
+ghost use Rattle.metafile.specs.Bytes.{same};
+ghost use Rattle.metafile.specs.Lines.{first_of};
+ghost use Rattle.metafile.specs.Relations.{split_on, heading, verdict_by, verdicts_by};
 ghost use Rattle.relation_line.specs.Form.{has_name};
 ghost use Rattle.relations_check.specs.Judged.{never, declared_below, Judging};
-ghost use Rattle.relations_check.specs.Window.{WindowOf};
+ghost use Rattle.relations_check.specs.TextLines.{lines_left};
 
-use crate::window::{Window, is_declared};
-use relation_line::verdicts;
+use crate::window::Rows;
+use relation_line::Verdict;
 
-const DECLARED: u32 = verdicts::DECLARED as u32;
+// The lines of a text, one after the other.
+#[derive(Clone, Copy)]
+pub struct Lines<'a> {
+    // from the next line on; behind the last there is nothing
+    pub left: Option<&'a [u8]>,
+}
 
-const UNDECLARED: u32 = verdicts::UNDECLARED as u32;
+impl<'a> Iterator for Lines<'a> {
+    type Item = &'a [u8];
 
-// Where the line that begins at p ends: at its LF, or at the text's end.
-pub fn line_end(text: &[u8], p: usize) -> usize
-    requires { p ≤ length text.now }
-    ensures { (result ≡ p + find (10 ∷ []) (drop p text.now)) × (result ≤ length text.now) }
+    ghost next_gives = { YieldsFirstRef lines_left };
+
+    ghost remaining = { item_count lines_left };
+
+    fn next(&mut self) -> Option<&'a [u8]> {
+        let text = self.left?;
+        let end = search::find_plain(b"\n", text, &[]);
+        self.left = if end < text.len() {
+            Some(&text[end + 1..])
+        } else {
+            None
+        };
+        Some(&text[..end])
+    }
+}
+
+impl<'a> Lines<'a> {
+    pub fn of(text: &'a [u8]) -> Lines<'a>
+        ensures { lines_left result ≡ split_on 10 text.now }
+    {
+        Lines { left: Some(text) }
+    }
+}
+
+// The first line is the heading line.
+pub fn is_headed(text: &[u8]) -> bool
+    ensures { result ≡ same (first_of (split_on 10 text.now)) heading }
 {
-    p + search::find_plain(b"\n", &text[p..], &text[..0])
+    Lines::of(text)
+        .next()
+        .is_some_and(|line| relation_line::is_heading(line))
 }
 
 // How many relation lines there are, malformed ones too.
 pub fn count(text: &[u8]) -> usize
     ensures { result ≡ length (verdicts_by never (split_on 10 text.now)) }
 {
-    let mut n: usize = 0;
-    let mut p: usize = 0;
-    while p <= text.len() {
-        let end = line_end(text, p);
-        if relation_line::is_named(&text[p..end]) {
-            n += 1;
-        }
-        p = end + 1;
-    }
-    n
+    Lines::of(text)
+        .filter(|line| relation_line::is_named(line))
+        .count()
 }
 
-// The form of each relation line, where nothing is declared yet.
+// The verdict of each relation line, where nothing is declared yet.
 pub fn put_forms(text: &[u8], verdicts: &mut [u32])
     requires { length (verdicts_by never (split_on 10 text.now)) ≤ length verdicts.old }
     ensures { verdicts.new ≡ verdicts_by never (split_on 10 text.now) ++ drop (length (verdicts_by never (split_on 10 text.now))) verdicts.old }
 {
-    let mut i: usize = 0;
-    let mut p: usize = 0;
-    while p <= text.len() {
-        let end = line_end(text, p);
-        let form = relation_line::form(&text[p..end]);
-        if form != 0 {
-            verdicts[i] = form as u32;
-            i += 1;
-        }
-        p = end + 1;
+    let forms = Lines::of(text).filter_map(|line| relation_line::form(line));
+    for (i, form) in forms.enumerate() {
+        verdicts[i] = u32::from(form);
     }
 }
 
-// The verdict of a relation line by the rows of the window too; it was another by the rows before them.
-fn verdict(file: &[u8], d: &[u32], w: Window, line: &[u8], before: u32) -> u32
-    requires window_of { WindowOf file.now d.now w.from w.entries }
-    requires line_value { has_name line.now ≡ true }
-    requires before_value { before ≡ verdict_by (declared_below file.now w.from) line.now }
-    ensures { result ≡ verdict_by (declared_below file.now (w.from + w.entries)) line.now }
-{
-    if before != UNDECLARED {
-        return before;
-    }
-    if is_declared(file, d, w, line) {
-        return DECLARED;
-    }
-    UNDECLARED
-}
-
-// The verdicts by the rows of the window too.
-pub fn judge(file: &[u8], d: &[u32], w: Window, text: &[u8], verdicts: &mut [u32])
-    requires window_of { WindowOf file.now d.now w.from w.entries }
-    requires judging { Judging file.now w.from text.now verdicts.old }
-    ensures { verdicts.new ≡ verdicts_by (declared_below file.now (w.from + w.entries)) (split_on 10 text.now) ++ drop (length (verdicts_by never (split_on 10 text.now))) verdicts.old }
-{
-    let mut i: usize = 0;
-    let mut p: usize = 0;
-    while p <= text.len() {
-        let end = line_end(text, p);
-        if relation_line::is_named(&text[p..end]) {
-            verdicts[i] = verdict(file, d, w, &text[p..end], verdicts[i]);
-            i += 1;
+impl<'a> Rows<'a> {
+    // The verdict of a relation line by the rows of the window too; it was another by the rows before them.
+    fn verdict(self, line: &[u8], before: u32) -> u32
+        requires line_value { has_name line.now ≡ true }
+        requires before_value { before ≡ verdict_by (declared_below self.file.now self.window.from) line.now }
+        ensures { result ≡ verdict_by (declared_below self.entry.file.now (self.entry.window.from + self.entry.window.entries)) line.now }
+    {
+        if before == u32::from(Verdict::Undeclared) && self.declares(line) {
+            return u32::from(Verdict::Declared);
         }
-        p = end + 1;
+        before
+    }
+
+    // The verdicts by the rows of the window too.
+    pub fn judge(self, text: &[u8], verdicts: &mut [u32])
+        requires { Judging self.file.now self.window.from text.now verdicts.old }
+        ensures { verdicts.new ≡ verdicts_by (declared_below self.entry.file.now (self.entry.window.from + self.entry.window.entries)) (split_on 10 text.now) ++ drop (length (verdicts_by never (split_on 10 text.now))) verdicts.old }
+    {
+        let named = Lines::of(text).filter(|line| relation_line::is_named(line));
+        for (i, line) in named.enumerate() {
+            verdicts[i] = self.verdict(line, verdicts[i]);
+        }
     }
 }

@@ -50,18 +50,29 @@ pub fn fill(file: &[u8], h: Header, from: usize, place: usize, rows: usize, d: &
     }
 }
 
-// Whether a row of the window declares the dependency of a line.
-pub fn is_declared(file: &[u8], d: &[u32], w: Window, line: &[u8]) -> bool
-    requires window_of { WindowOf file.now d.now w.from w.entries }
-    requires line_value { form_of line.now ≡ 2 }
-    ensures { (declared_below file.now w.from (split_on 9 line.now) || result) ≡ declared_below file.now (w.from + w.entries) (split_on 9 line.now) }
-{
-    let child = &line[relation_line::parts::CHILD_SERIAL..relation_line::parts::CHILD_SERIAL_END];
-    let e = directory::look_up(file, d, w.entries, child);
-    if e == 0 {
-        return false;
+// The rows of a window: the file, and the directory of their serial numbers.
+#[derive(Clone, Copy)]
+pub struct Rows<'a> {
+    pub file: &'a [u8],
+    pub directory: &'a [u32],
+    pub window: Window,
+    ghost window_of: { WindowOf file.now directory.now window.from window.entries },
+}
+
+impl<'a> Rows<'a> {
+    // Whether one of them declares the dependency of a line.
+    pub fn declares(self, line: &[u8]) -> bool
+        requires { form_of line.now ≡ 2 }
+        ensures { (declared_below self.entry.file.now self.entry.window.from (split_on 9 line.now) || result) ≡ declared_below self.entry.file.now (self.entry.window.from + self.entry.window.entries) (split_on 9 line.now) }
+    {
+        let child =
+            &line[relation_line::parts::CHILD_SERIAL..relation_line::parts::CHILD_SERIAL_END];
+        let entries = self.window.entries;
+        let Some(j) = directory::look_up(self.file, self.directory, entries, child) else {
+            return false;
+        };
+        let at = directory::start(self.directory, j);
+        let s = &self.file[at..];
+        relation_line::declares(s, chunk::dependencies(s), line)
     }
-    let at = directory::start(d, e - 1);
-    let s = &file[at..];
-    relation_line::declares(s, chunk::dependencies(s), line)
 }

@@ -9,8 +9,9 @@ use mathlib.Core.List.{List, [], ◌∷◌, ◌++◌, append_assoc}
 use native.Mathlib.Omega.{arith}
 use lib.ListN.{length, length-append}
 use borrow.Author.Tests.{lt-ltb, le-ltb}
-use Rattle.metafile.specs.declared.RelationsWriteAnswer.TheVariants.{Written, Refused}
-use Rattle.metafile.specs.Answers.{relations_write_answer, over_limit, outcome, placed}
+use Rattle.std.specs.declared.result.Result.TheVariants.{Ok, Err}
+use Rattle.metafile.specs.declared.refusal.Refusal.TheVariants.{OverLimit, NoRoom}
+use Rattle.metafile.specs.Answers.{over_limit, outcome, placed, count_answer}
 use Rattle.metafile.specs.Relations.{divided, lined, heading, relation_lines, relations_text, relations_write_tests, relations_write}
 use Rattle.laws.proofs.Loops.{placed-length, placed-placed}
 use Rattle.laws.proofs.Accepted.{refusal-first, refusal-next, tests-end}
@@ -31,14 +32,14 @@ text-is file = append_assoc heading (10 ∷ []) (lined (relation_lines file))
 
 module _ (file buffer : List ℕ) where
   pub refused-11 : over_limit (length file ∷ length buffer ∷ []) ≡ true
-      → outcome (relations_write_answer (Refused 11)) buffer ≡ relations_write file buffer
-  unfolding relations_write relations_write_tests relations_write_answer
+      → outcome (count_answer (Err OverLimit)) buffer ≡ relations_write file buffer
+  unfolding relations_write relations_write_tests count_answer
   refused-11 e = outcome-refused _ buffer _ 11 (sym (refusal-first 11 _ _ e)) (λ z. omega arith)
 
   module _ (s : over_limit (length file ∷ length buffer ∷ []) ≡ false) (n : ℕ)
       (is : n ≡ 131 + 605 * length (relation_lines file)) where
-    pub refused-18 : length buffer < n → outcome (relations_write_answer (Refused 18)) buffer ≡ relations_write file buffer
-    unfolding relations_write relations_write_tests relations_write_answer
+    pub refused-18 : length buffer < n → outcome (count_answer (Err NoRoom)) buffer ≡ relations_write file buffer
+    unfolding relations_write relations_write_tests count_answer
     refused-18 h =
         let short : length buffer < length (relations_text file) = omega (arith, text-length file) in
         outcome-refused _ buffer _ 18 (sym (refusal-next 11 _ _ s ∙ refusal-first 18 _ [] (lt-ltb _ _ short)))
@@ -60,8 +61,8 @@ module _ (file buffer : List ℕ) where
           ∙ rw (first, place) (placed-placed 0 (heading ++ 10 ∷ []) (lined (relation_lines file)) buffer room)
           ∙ ap (λ (x : List ℕ). placed 0 x buffer) (text-is file)
 
-      pub written : outcome (relations_write_answer (Written n)) after ≡ relations_write file buffer
-      unfolding relations_write relations_write_tests relations_write_answer
+      pub written : outcome (count_answer (Ok n)) after ≡ relations_write file buffer
+      unfolding relations_write relations_write_tests count_answer
       written =
           let fits : length (relations_text file) ≤ length buffer = omega (arith, text-length file) in
           let long : n ≡ length (relations_text file) = omega (arith, text-length file) in

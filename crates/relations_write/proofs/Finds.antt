@@ -9,6 +9,8 @@
 -- Assumes nothing.
 use Prim.Native.Nat.{ℕ, ◌+◌, ◌-◌, ◌*◌, ◌≤◌, ◌<◌}
 use mathlib.Core.Bool.{Bool, true, false, not}
+use mathlib.Core.Bool.{Bool-set}
+use mathlib.Core.Logic.{∥∥₁_elim}
 use mathlib.Core.Path.{◌≡◌, refl, sym, ap, ◌∙◌}
 use mathlib.Core.List.{List}
 use native.Mathlib.Omega.{arith}
@@ -157,11 +159,13 @@ module _ (file d : List ℕ) (k n : ℕ) (w : Held file d k n) where
 module _ (file d : List ℕ) (t : Found) (w : FoundIn file d t) (x : List ℕ) (r : ℕ) (s : Sought file d t.entries x r) where
   pub found-there : (r ≡ 0 → ⊥) → true ≡ finds_relations file x
   found-there z =
-      let o = w.held.sound (r - 1) (omega (arith, s.few, z)) in
+      ∥∥₁_elim w.held (Bool-set _ _)
+      (λ (h : Held file d t.upto t.entries).
+      let o = h.sound (r - 1) (omega (arith, s.few, z)) in
       let has = rw o.serial-is at (s.found (omega (arith, z))) in
       sym
       (row-finds file x o.row (omega (arith, o.before, w.few, w.rows_are)) (serial-sym _ x has)
-      ∙ o.relations)
+      ∙ o.relations))
 
   -- the row with the serial number is before those that are gone through
   early : r ≡ 0 → (i : ℕ) → row_with x (rows_of file) ≡ i → i < t.upto → finds_relations file x ≡ false
@@ -173,8 +177,10 @@ module _ (file d : List ℕ) (t : Found) (w : FoundIn file d t) (x : List ℕ) (
       (λ q. absurd (with-other x (rows_of file) i h q is)) in
       row-finds file x i h has
       ∙ test (is_relations (chunk_of file i))
-      (λ q. let e = w.held.complete i l q in
-      absurd (omega (arith, z, s.all e.number e.below (rw e.serial-is (serial-sym x _ has)))))
+      (λ q.
+      ∥∥₁_elim w.held (Bool-set _ _)
+      (λ (k : Held file d t.upto t.entries). let e = k.complete i l q in
+      absurd (omega (arith, z, s.all e.number e.below (rw e.serial-is (serial-sym x _ has))))))
       (λ q. q)
 
   nowhere : r ≡ 0 → (t.upto ≤ row_with x (rows_of file) → finds_relations file x ≡ false) → finds_relations file x ≡ false

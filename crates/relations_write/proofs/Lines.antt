@@ -1,5 +1,5 @@
 -- The lines of a chunk, and of all rows (specs/Counted): how many they are, and put into a buffer.
---     count-few count-le count_next   numbers below n that pass a test
+--     count-few count-le count_next count-range   numbers below n that pass a test
 --     put-room                        a buffer is as long as it was
 --     line-put                        one line, as it was put
 --     count_none count-listed lines-few   how many lines a chunk has
@@ -11,11 +11,14 @@ use Prim.Native.Nat.{ℕ, zero, suc, ◌+◌, ◌-◌, ◌*◌, ◌≤◌}
 use mathlib.Core.Bool.{Bool, true, false, cond}
 use mathlib.Core.Path.{◌≡◌, refl, sym, ap, ◌∙◌}
 use mathlib.Core.List.{List, [], ◌∷◌, ◌++◌, append_assoc, append-nil}
+use native.Mathlib.Nat.{zero-add}
 use native.Mathlib.Omega.{arith}
 use native.Mathlib.Numerals.{add-one}
 use lib.Dec.{eqb}
 use lib.ListN.{length, take, drop, length-append, length-take, length-drop}
 use borrow.Author.Tests.{eqb-true, eqb-false}
+use Rattle.std.specs.List.{filter, range_with_len}
+use Rattle.std.proofs.lemmas.List.Elements.{filter-append}
 use Rattle.metafile.specs.Bytes.{part}
 use Rattle.metafile.specs.Chunk.{sub_format, dependency_serial_of, dependency_sub_format_of}
 use Rattle.metafile.specs.Reading.{rows_of}
@@ -30,6 +33,7 @@ use Rattle.walk.specs.declared.answers.Header.{Header}
 use Rattle.walk.specs.declared.known.Places.{Places}
 use Rattle.walk.specs.Known.{RowPlaces}
 use Rattle.relation_line.specs.Form.{line_for}
+use Rattle.relation_line.proofs.Ranges.{range-more}
 use Rattle.relation_line.proofs.Written.{line-long as put-long}
 use Rattle.relations_write.specs.Found.{finds_relations, listed_in}
 use Rattle.relations_write.specs.Counted.{count_below, chunk_lines, lines_in, line_count, Put, RowPut}
@@ -56,6 +60,17 @@ module _ (p : ℕ → Bool) where
   pub count_next : (n : ℕ) (b : Bool) → p n ≡ b → count_below (n + 1) p ≡ count_below n p + cond b 1 0
   unfolding count_below
   count_next n b e = rw (add-one n, e)
+
+-- a chain over 0..n counts them
+pub count-range : (p : ℕ → Bool) (n : ℕ) → length (filter p (range_with_len 0 n)) ≡ count_below n p
+unfolding count_below
+count-range p zero = refl
+count-range p (suc n) =
+    let more : filter p (range_with_len 0 (suc n)) ≡ filter p (range_with_len 0 n) ++ filter p (n ∷ []) =
+    ap (filter p) (range-more 0 n ∙ rw (zero-add n)) ∙ filter-append p (range_with_len 0 n) (n ∷ []) in
+    ap length more
+    ∙ length-append (filter p (range_with_len 0 n)) (filter p (n ∷ []))
+    ∙ rw (count-range p n) (test (p n) (λ q. rw q) (λ q. rw q))
 
 module _ {A : Type 0} (f : ℕ → List A) where
   join-le : (i n : ℕ) → i ≤ n → length (join_below i f) ≤ length (join_below n f)

@@ -44,7 +44,8 @@ pub record FoundIn (file d : List ℕ) (t : Found) : Type 0 where
   pub begun : 0 < t.rows → Behind file t.header 0 t.header.end
   pub behind : 0 < t.rows → Behind file t.header t.upto t.at
   pub few : t.upto ≤ t.rows
-  pub held : Held file d t.upto t.entries
+  pub holds : Directory file t.entries d
+  pub held : ∥ Held file d t.upto t.entries ∥₁
   pub small : length file ≤ 1073741824
 
 -- the rows from row `from` on were gone through for a relations row with a serial number

@@ -22,6 +22,15 @@ pub struct Found {
     pub at: usize,
 }
 
+// A file whose relations rows are found, and what is listed of it.
+#[derive(Clone, Copy)]
+pub struct Listed<'a> {
+    pub file: &'a [u8],
+    pub found: Found,
+    pub directory: &'a [u32],
+    ghost found_in: { FoundIn file.now directory.now found },
+}
+
 // Whether the chunk at a place of the file is a relation chunk.
 pub fn is_relations(file: &[u8], at: usize) -> bool
     requires { at + 568 ≤ length file.now }
@@ -77,45 +86,39 @@ fn scan(file: &[u8], h: Header, from: usize, place: usize, rows: usize, serial: 
     ensures { Scanned file.now from serial.now result }
 {
     let mut at = place;
-    let mut k = from;
-    while k < rows {
+    for k in from..rows {
         let row = walk::row_at(file, h, k, at);
         let own = row.serial;
         if search::same_bytes(&file[own..own + COMPARED], &serial[0..COMPARED]) {
             return is_relations(file, at);
         }
         at = row.end;
-        k += 1;
     }
     false
 }
 
-// Whether a serial number is that of a relations row.
-fn finds(file: &[u8], t: Found, d: &[u32], serial: &[u8]) -> bool
-    requires found_in { FoundIn file.now d.now t }
-    requires serial_len { length serial.now ≡ 38 }
-    ensures { result ≡ finds_relations file.now serial.now }
-{
-    if directory::look_up(file, d, t.entries, serial) != 0 {
-        return true;
+impl<'a> Listed<'a> {
+    // Whether a serial number is that of a relations row.
+    fn finds(self, serial: &[u8]) -> bool
+        requires { length serial.now ≡ 38 }
+        ensures { result ≡ finds_relations self.entry.file.now serial.now }
+    {
+        let t = self.found;
+        directory::look_up(self.file, self.directory, t.entries, serial).is_some()
+            || (t.upto < t.rows && scan(self.file, t.header, t.upto, t.at, t.rows, serial))
     }
-    if t.upto < t.rows {
-        return scan(file, t.header, t.upto, t.at, t.rows, serial);
-    }
-    false
-}
 
-// Whether dependency j of the chunk at a place of the file is listed.
-pub fn is_listed(file: &[u8], t: Found, d: &[u32], at: usize, j: usize) -> bool
-    requires found_in { FoundIn file.now d.now t }
-    requires j_in_bounds { at + (568 + 344 * j + 344) ≤ length file.now }
-    ensures { result ≡ listed_in file.now (drop at file.now) j }
-{
-    let dependency = at + places::DEPENDENCIES + places::DEPENDENCY_BYTES * j;
-    let name = dependency + places::DEPENDENCY_SUB_FORMAT;
-    if relation_line::is_relations(&file[name..name + places::NAME]) {
-        return false;
+    // Whether dependency j of the chunk at a place of the file is listed.
+    pub fn is_listed(self, at: usize, j: usize) -> bool
+        requires { at + (568 + 344 * j + 344) ≤ length self.file.now }
+        ensures { result ≡ listed_in self.entry.file.now (drop at self.entry.file.now) j }
+    {
+        let dependency = at + places::DEPENDENCIES + places::DEPENDENCY_BYTES * j;
+        let name = dependency + places::DEPENDENCY_SUB_FORMAT;
+        if relation_line::is_relations(&self.file[name..name + places::NAME]) {
+            return false;
+        }
+        let serial = dependency + places::DEPENDENCY_SERIAL;
+        !self.finds(&self.file[serial..serial + places::SERIAL])
     }
-    let serial = dependency + places::DEPENDENCY_SERIAL;
-    !finds(file, t, d, &file[serial..serial + places::SERIAL])
 }

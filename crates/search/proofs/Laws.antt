@@ -1,5 +1,5 @@
 -- Laws of the search for a mark ("the first place where the mark occurs"), for the loops of src/lib.rt.
---     same-..      two runs of bytes compared from the front: lengths that differ, a byte that differs, one byte more, the end
+--     same-..      two runs of bytes: lengths that differ, as `==` of the library compares them
 --     all-..       all bytes compared, one after another
 --     starts-..    a beginning: too short, across two runs
 --     find-..      found here, later, never past the end
@@ -7,11 +7,11 @@
 --     passed-..    such a place where the search begins, one place on, several, on to a byte; what is found there, from there on, at
 --                  the end; part-.. the part from there on
 --     byte-..      the search for one byte, from place to place and in the first bytes
---     any-..       whether it occurs, all bytes compared
+--     in-any       whether it occurs, as `contains` of the library tests it
 --     inside-..    the first place inside the first of two runs, and what the search in both is from it
 -- Assumes nothing.
 use Prim.Native.Nat.{ℕ, zero, suc, ◌+◌, ◌-◌, ◌≤◌, ◌<◌, min}
-use mathlib.Core.Bool.{Bool, true, false, ◌&&◌, ◌||◌, and-true, and-false}
+use mathlib.Core.Bool.{Bool, true, false, ◌&&◌, and-true, and-false}
 use mathlib.Core.Path.{◌≡◌, refl, sym, ap, ◌∙◌}
 use mathlib.Core.List.{List, [], ◌∷◌, ◌++◌, append-nil}
 use native.Mathlib.Nat.{zero-add}
@@ -21,6 +21,8 @@ use lib.Dec.{eqb}
 use lib.ListN.{length, take, drop, get_or, length-append, length-drop, length-take, take-append-drop, drop_of_length-le}
 use lib.Seq.{drop-cons, drop-append-le, drop-drop, take-append-add, get_or-drop, get_or-take}
 use borrow.Author.Tests.{eq-eqb, ne_eqb, eqb-true}
+use Rattle.std.specs.Cmp.Lexicographic.{pointwise}
+use Rattle.std.specs.List.{list_any}
 use Rattle.metafile.specs.Bytes.{same, starts, find}
 use Rattle.search.specs.Shifts.{is_in}
 use Rattle.laws.proofs.First.{test, untrue, or_left, or_right}
@@ -41,21 +43,6 @@ same_at : (a b : List ℕ) (i : ℕ) → i < length a → i < length b
 unfolding same
 same_at a b i h k = rw (drop-cons a i 0, drop-cons b i 0)
 
-pub same_stop : (a b : List ℕ) (i : ℕ) → i < length a → i < length b → same a b ≡ same (drop i a) (drop i b)
-    → (get_or a i 0 ≡ get_or b i 0 → ⊥) → false ≡ same a b
-same_stop a b i h k e n = sym (e ∙ same_at a b i h k ∙ rw (ne_eqb (get_or a i 0) (get_or b i 0) n))
-
-pub same_next : (a b : List ℕ) (i j : ℕ) → i < length a → i < length b → same a b ≡ same (drop i a) (drop i b)
-    → get_or a i 0 ≡ get_or b i 0 → j ≡ suc i → same a b ≡ same (drop j a) (drop j b)
-same_next a b i j h k e q z = e ∙ same_at a b i h k ∙ rw (eq-eqb (get_or a i 0) (get_or b i 0) q, z)
-
-pub same_end : (a b : List ℕ) (i : ℕ) → length a ≤ i → length b ≤ i → same a b ≡ same (drop i a) (drop i b) → true ≡ same a b
-unfolding same
-same_end a b i h k e = sym (e ∙ rw (drop_of_length-le a h, drop_of_length-le b k))
-
-pub same-begin : (a b : List ℕ) (i : ℕ) → i ≡ 0 → same a b ≡ same (drop i a) (drop i b)
-same-begin a b i e = rw e
-
 -- all bytes compared: what holds of those passed, and the rest
 pub all-begin : (a b : List ℕ) → same a b ≡ (true && same (drop 0 a) (drop 0 b))
 all-begin a b = refl
@@ -69,6 +56,14 @@ pub all_end : (a b : List ℕ) (i : ℕ) (good : Bool) → length a ≤ i → le
 unfolding same
 all_end a b i true h k e = sym (e ∙ rw (drop_of_length-le a h, drop_of_length-le b k))
 all_end a b i false h k e = sym e
+
+-- as `==` of the library compares
+pub same-pointwise : (a b : List ℕ) → pointwise eqb a b ≡ same a b
+unfolding same
+same-pointwise [] [] = refl
+same-pointwise [] (y ∷ b) = refl
+same-pointwise (x ∷ a) [] = refl
+same-pointwise (x ∷ a) (y ∷ b) = rw (same-pointwise a b)
 
 same-append : (a b c d : List ℕ) → length a ≡ length b → same (a ++ c) (b ++ d) ≡ (same a b && same c d)
 unfolding same
@@ -188,22 +183,10 @@ byte-within b s p k l e = omega (arith, find-fits (b ∷ []) (drop p s), length-
 
 -- ---- a byte that occurs or not
 
-pub any-begin : (b : ℕ) (s : List ℕ) → is_in b s ≡ (false || is_in b (drop 0 s))
-any-begin b s = refl
-
-any_at : (b : ℕ) (s : List ℕ) (i : ℕ) → i < length s → is_in b (drop i s) ≡ (eqb (get_or s i 0) b || is_in b (drop (i + 1) s))
+pub in-any : (b : ℕ) (s : List ℕ) → list_any (λ x. eqb x b) s ≡ is_in b s
 unfolding is_in
-any_at b s i l = rw (drop-cons s i 0, add-one i)
-
-pub any_next : (b : ℕ) (s : List ℕ) (i : ℕ) (found : Bool) → i < length s → is_in b s ≡ (found || is_in b (drop i s))
-    → is_in b s ≡ ((found || eqb (get_or s i 0) b) || is_in b (drop (i + 1) s))
-any_next b s i true l e = e
-any_next b s i false l e = e ∙ any_at b s i l
-
-pub any-end : (b : ℕ) (s : List ℕ) (i : ℕ) (found : Bool) → length s ≤ i → is_in b s ≡ (found || is_in b (drop i s)) → found ≡ is_in b s
-unfolding is_in
-any-end b s i true l e = sym e
-any-end b s i false l e = sym (e ∙ rw (drop_of_length-le s l))
+in-any b [] = refl
+in-any b (x ∷ s) = rw (in-any b s)
 
 pub in-at : (m : List ℕ) (i : ℕ) → i < length m → is_in (get_or m i 0) m ≡ true
 unfolding is_in

@@ -1,11 +1,13 @@
 // The search for a mark with a table of shifts (Horspool): at a place that is tried the byte under the mark's last one says
 // how far the mark can be moved on, so most places are passed over. The contracts cite specs/Shifts; the laws of the shifts
 // are in proofs/Shifts.
-ghost use Rattle.std.specs.Prelude.{◌≡◌, ◌-◌, ◌≤◌, ◌<◌, max, length, get_or};
+ghost use Rattle.std.specs.Prelude.{◌≡◌, ◌≤◌, ◌<◌, length, get_or};
 ghost use Rattle.metafile.specs.Bytes.{find};
 ghost use Rattle.search.specs.Shifts.{ShiftsOf, common_of, further_from, step_of, tries};
 
 use crate::{find_byte, same_bytes};
+
+const STRETCH: usize = 16;
 
 // The first place of a mark, and how many places were tried.
 #[repr(C)]
@@ -22,11 +24,8 @@ fn shifts(mark: &[u8]) -> [u16; 256]
 {
     let last = mark.len() - 1;
     let mut table = [mark.len() as u16; 256];
-    let mut i: usize = 0;
-    while i < last {
-        let x = mark[i] as usize;
-        table[x] = (last - i) as u16;
-        i += 1;
+    for i in 0..last {
+        table[usize::from(mark[i])] = (last - i) as u16;
     }
     table
 }
@@ -36,14 +35,12 @@ fn common_single(mark: &[u8], s: &[u8]) -> usize
     requires { length mark.now ≤ length s.now }
     ensures { result ≡ common_of mark.now s.now }
 {
-    let mut i: usize = 0;
-    while i < mark.len() {
-        if s[i] != mark[i] {
-            break;
+    for (i, x) in mark.iter().enumerate() {
+        if s[i] != *x {
+            return i;
         }
-        i += 1;
     }
-    i
+    mark.len()
 }
 
 // The same number, by stretches of 16 bytes as long as these agree.
@@ -51,14 +48,14 @@ fn common(mark: &[u8], s: &[u8]) -> usize
     requires { length mark.now ≤ length s.now }
     ensures { result ≡ common_of mark.now s.now }
 {
-    let mut i: usize = 0;
-    while 16 <= mark.len() - i {
-        if !same_bytes(&mark[i..i + 16], &s[i..i + 16]) {
+    let mut at = 0;
+    for i in 0..mark.len() / STRETCH {
+        if !same_bytes(&mark[at..at + STRETCH], &s[at..at + STRETCH]) {
             break;
         }
-        i += 16;
+        at = STRETCH * (i + 1);
     }
-    i + common_single(&mark[i..], &s[i..])
+    at + common_single(&mark[at..], &s[at..])
 }
 
 // From a place that is a bytes on, further to the mark's first byte where that is near or the mark is short. A shift of 1 has
@@ -76,32 +73,18 @@ fn further(mark: &[u8], s: &[u8], a: usize) -> usize
     a
 }
 
-fn greater(a: usize, b: usize) -> usize
-    ensures { result ≡ max a b }
-{
-    if a < b { b } else { a }
-}
-
-// What b leaves of a, or 0.
-fn less(a: usize, b: usize) -> usize
-    ensures { result ≡ a - b }
-{
-    if a < b { 0 } else { a - b }
-}
-
 // The entry of a byte.
-fn shift(table: &[u16], x: u8) -> usize
-    requires { length table.now ≡ 256 }
+fn shift(table: &[u16; 256], x: u8) -> usize
     ensures { (result ≡ get_or table.now x 0) × (x < 256) }
 {
-    let i = x as usize;
-    table[i] as usize
+    usize::from(table[usize::from(x)])
 }
 
 // How far on from the start of s the next place is tried; 0 where the mark stands there.
-fn step(mark: &[u8], s: &[u8], table: &[u16]) -> usize
+// number: step_of of specs/Shifts, which stays as it is, is 0 there
+fn step(mark: &[u8], s: &[u8], table: &[u16; 256]) -> usize
     requires in_bounds { (1 ≤ length mark.now) × (length mark.now ≤ length s.now) }
-    requires table_len { (length table.now ≡ 256) × ShiftsOf mark.now table.now }
+    requires table_value { ShiftsOf mark.now table.now }
     ensures { result ≡ step_of mark.now s.now }
 {
     let last = mark.len() - 1;
@@ -113,8 +96,8 @@ fn step(mark: &[u8], s: &[u8], table: &[u16]) -> usize
     if n == mark.len() {
         return 0;
     }
-    let by_other = less(shift(table, s[n]), last - n);
-    further(mark, s, greater(by_last, by_other))
+    let by_other = shift(table, s[n]).saturating_sub(last - n);
+    further(mark, s, by_last.max(by_other))
 }
 
 // The first place of a mark of 1 to 999 bytes, or the end; and how many places were tried.

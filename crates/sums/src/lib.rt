@@ -2,7 +2,6 @@
 // The contracts cite sum of the crate metafile (specs/Bytes); the laws of the sum are in proofs/Laws.
 //     byte_sum   the reference, byte by byte; a serial number's check
 //     words      the same sum, eight bytes at a time: chunks and the header
-// Rests on std::num for the additions that wrap.
 #![tactic(auto)]
 
 ghost use Rattle.std.specs.Prelude.{◌≡◌};
@@ -17,10 +16,8 @@ pub fn byte_sum(s: &[u8]) -> u8
     ensures { result ≡ sum s.now }
 {
     let mut acc: u8 = 0;
-    let mut i: usize = 0;
-    while i < s.len() {
-        acc = std::num::wrapping_add_u8(acc, s[i]);
-        i += 1;
+    for b in s {
+        acc = acc.wrapping_add(*b);
     }
     acc
 }

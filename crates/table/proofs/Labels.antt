@@ -1,23 +1,32 @@
--- What a comparison with a label needs, and the loop that puts one.
+-- What a comparison with a label needs, and a copy that puts one.
 --     label-room label_inside label-taken  a label stands in the bytes that the code has for it
 --     label-short label-compared            a comparison with a label
---     put-fits put_next put-end put-place   a label put byte by byte
+--     copied                                bytes copied into a part of a buffer
+--     put-fits put-place label-put          a label put
 -- Assumes nothing.
 use Prim.Native.Nat.{ℕ, ◌+◌, ◌-◌, ◌≤◌, ◌<◌}
 use mathlib.Core.Bool.{Bool}
 use mathlib.Core.Path.{◌≡◌, sym, ◌∙◌}
 use mathlib.Core.List.{List}
 use native.Mathlib.Omega.{arith}
-use lib.ListN.{length, take, drop, get_or, set, length-drop}
-use lib.Seq.{get_or-take, take-length, length-take-le}
+use lib.ListN.{length, take, drop, length-drop}
+use lib.Seq.{drop-drop, length-take-le}
+use borrow.Rule.Slice.PartMut.{put_mid}
 use Rattle.table.specs.declared.Line.{Line as CodeLine}
 use Rattle.table.specs.Codes.{line_no, code_no}
 use Rattle.metafile.specs.Bytes.{same, require}
 use Rattle.metafile.specs.Lines.{fixed_fault, fixed, fault}
 use Rattle.metafile.specs.Answers.{placed}
 use Rattle.laws.proofs.Table.{field-long}
-use Rattle.laws.proofs.Loops.{fixed-short, put-more}
+use Rattle.laws.proofs.Loops.{fixed-short}
 use Rattle.table.proofs.Lines.{label-part, label-fits, label-held, label-long}
+
+-- bytes copied into the part of a buffer that starts at a place and is as long
+pub copied : (at n : ℕ) (s b ys : List ℕ) → n ≡ length s → ys ≡ s → put_mid at (at + n - at) b ys ≡ placed at s b
+unfolding placed
+copied at n s b ys l e =
+    let long : at + n - at ≡ n = omega arith in
+    rw (e, long, drop-drop n at b, ← l)
 
 -- a line of the code
 module _ (i : ℕ) (h : i < 24) (line : CodeLine) (is : line ≡ code_no i) where
@@ -35,10 +44,6 @@ module _ (i : ℕ) (h : i < 24) (line : CodeLine) (is : line ≡ code_no i) wher
 
   here : (line_no i).label ≡ take line.long line.label
   here = rw is (label-part i h)
-
-  -- byte j of the label
-  label-byte : (j : ℕ) → j < line.long → get_or (line_no i).label j 0 ≡ get_or line.label j 0
-  label-byte j l = rw (here, get_or-take)
 
   -- ---- a comparison with the label
 
@@ -59,21 +64,14 @@ module _ (i : ℕ) (h : i < 24) (line : CodeLine) (is : line ≡ code_no i) wher
           let test : b ≡ same (take (length (line_no i).label) (drop at s)) (line_no i).label = e ∙ rw (long, ← here) in
           sym (field-long (length (line_no i).label) (fixed_fault (line_no i).label) (drop at s) room ∙ rw (← test))
 
-  -- ---- the label put byte by byte at a place of a buffer
+  -- ---- the label put at a place of a buffer
 
   module _ (b : List ℕ) (at : ℕ) (fits : at + length (line_no i).label ≤ length b) where
     pub put-fits : at + line.long ≤ length b
     put-fits = omega (arith, long-is)
 
-    pub put_next : (now' : List ℕ) (j : ℕ) → j < line.long → now' ≡ placed at (take j (line_no i).label) b
-        → set now' (at + j) (get_or line.label j 0) ≡ placed at (take (j + 1) (line_no i).label) b
-    put_next now' j l e =
-        rw (e, ← label-byte j l) (put-more at j (line_no i).label b fits (omega (arith, long-is)))
-
-    pub put-end : (now' : List ℕ) (j : ℕ) → j ≡ line.long → now' ≡ placed at (take j (line_no i).label) b → now' ≡ placed at (line_no i).label b
-    put-end now' j q e =
-        let long : j ≡ length (line_no i).label = omega (arith, long-is) in
-        e ∙ rw (long, take-length (line_no i).label)
-
     pub put-place : at + line.long ≡ at + length (line_no i).label
     put-place = omega (arith, long-is)
+
+    pub label-put : (ys : List ℕ) → ys ≡ take line.long line.label → put_mid at (at + line.long - at) b ys ≡ placed at (line_no i).label b
+    label-put ys e = rw here (copied at line.long (take line.long line.label) b ys label-taken e)

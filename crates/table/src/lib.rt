@@ -3,18 +3,21 @@
 //     rows     the table
 //     numbers  the numbers of its lines, by name
 //     places   the distances of values, summed from it
+//     names    names in a field, padded with spaces
 #![tactic(auto)]
 
+pub mod names;
 pub mod numbers;
 pub mod places;
 mod rows;
 
 ghost use Rattle.std.specs.Prelude.{◌≡◌, ◌+◌, ◌<◌, ◌≤◌, length, drop};
+ghost use Rattle.metafile.specs.Refusals.{fault_in};
 ghost use Rattle.metafile.specs.Lines.{fixed, fault};
 ghost use Rattle.metafile.specs.Answers.{placed};
 ghost use Rattle.table.specs.Codes.{code_no, line_no};
 
-use metafile::refusals;
+use metafile::Refusal;
 
 #[derive(Clone, Copy)]
 pub enum Kind {
@@ -76,21 +79,21 @@ pub fn line_at(i: usize) -> Line
     }
 }
 
-// The fault of line i's label at a place: 4 if the bytes end inside it, 5 if it differs.
-pub fn label_fault(s: &[u8], at: usize, i: usize) -> u8
+// Line i's label at a place: refused if the bytes end inside it, or if it differs.
+pub fn label_fault(s: &[u8], at: usize, i: usize) -> Result<(), Refusal>
     requires { (at ≤ length s.now) × (i < 24) }
-    ensures { result ≡ fault (fixed (line_no i).label) (drop at s.now) }
+    ensures { fault_in result ≡ fault (fixed (line_no i).label) (drop at s.now) }
 {
     let line = line_at(i);
     let long = line.long as usize;
     if s.len() - at < long {
-        return refusals::SHORT;
+        return Err(Refusal::Short);
     }
     let label = line.label;
     if search::same_bytes(&s[at..at + long], &label[..long]) {
-        return 0;
+        return Ok(());
     }
-    refusals::DIFFERS
+    Err(Refusal::Differs)
 }
 
 // Puts line i's label at a place of the buffer, and answers the place behind it.
@@ -101,10 +104,7 @@ pub fn put_label(buffer: &mut [u8], at: usize, i: usize) -> usize
     let line = line_at(i);
     let long = line.long as usize;
     let label = line.label;
-    let mut k: usize = 0;
-    while k < long {
-        buffer[at + k] = label[k];
-        k += 1;
-    }
-    at + long
+    let end = at + long;
+    buffer[at..end].copy_from_slice(&label[..long]);
+    end
 }

@@ -1,4 +1,5 @@
 // The lines by their numbers in the table.
+// clause: `i < 24` stays a number's bound, since the runs cut the table by numbers (lines_from in specs/Codes)
 
 // ---- a chunk's header
 pub const CHUNK_HEADER_LENGTH: usize = 0;

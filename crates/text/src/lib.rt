@@ -18,8 +18,9 @@ pub fn decimal_length(x: usize) -> usize
 {
     let mut n: usize = 1;
     let mut rest = x;
+    // while: what is left of the number ends the loop, not the count; as a `for n in 1..20` it needs a `return` and a 20
     while 10 <= rest {
-        rest = rest / 10;
+        rest /= 10;
         n += 1;
     }
     n

@@ -6,7 +6,7 @@
 --     marked-..           the rows in the filter: none, one more
 --     candidate-..        a place noted, a hash set
 --     looking-..          the chunks looked at: none, one more
---     noted-.. looked-..  the places noted, as a part of the array; what was looked at stays so where they are sorted
+--     looked-kept         what was looked at stays so where the places noted are sorted
 --     hashed-..           the places' hashes set: none, one more, all
 --     before-..           the first place noted behind another with its serial number
 --     compar..            the chunks compared: none, one more; the chunk behind the last row is none of them
@@ -19,7 +19,7 @@ use native.Mathlib.Omega.{arith}
 use native.Mathlib.Numerals.{add-one}
 use lib.Dec.{ltb}
 use lib.ListN.{length, take, drop, set, get_or, length-set, length-drop}
-use lib.Seq.{length-take-le, take_at, take_all, take-take, take-suc, take-suc-set, drop-drop}
+use lib.Seq.{take_all, take-take, take-suc, take-suc-set, drop-drop}
 use borrow.Author.Tests.{le-ltb, ltb-true, ltb-false}
 use Rattle.metafile.specs.Bytes.{part}
 use Rattle.metafile.specs.Fields.{same_serial, known}
@@ -345,17 +345,6 @@ module _ {file : List ℕ} (e : header_fault file ≡ 0) {i at p j m : ℕ} {wor
           marked = λ h.
               marked_more file e j p l (omega arith) (w.place (omega arith)) is (w.marked (omega arith)) s.long s.set s.stays;
         }
-
--- the places noted, as they are handed on, and as they are put back
-pub noted-given : (places : List ℕ) (m : ℕ) → take (m - 0) (drop 0 places) ≡ take m places
-noted-given places m = let n : m - 0 ≡ m = omega arith in rw n
-
-pub noted_back : (places noted : List ℕ) (m : ℕ) → m ≤ length places → Kept (take (m - 0) (drop 0 places)) noted
-    → take (m - 0) (drop 0 (take 0 places ++ (noted ++ drop (m - 0) (drop 0 places)))) ≡ noted
-noted_back places noted m h k =
-    let n : m - 0 ≡ m = omega arith in
-    let many : length noted ≡ m = rw n at k.long ∙ length-take-le m places h in
-    rw n (take_at noted (drop m places) m many)
 
 -- what was looked at, with the places sorted
 pub looked-kept : {file : List ℕ} {n : ℕ} {noted after : List ℕ} → Looked file n noted → Kept noted after → Looked file n after

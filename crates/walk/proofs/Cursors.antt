@@ -10,6 +10,8 @@ use mathlib.Core.Bool.{true, false}
 use mathlib.Core.Path.{◌≡◌, sym, ap, ◌∙◌}
 use mathlib.Core.List.{List}
 use native.Mathlib.Numerals.{add-one}
+use Rattle.std.specs.declared.result.Result.{Result}
+use Rattle.std.specs.declared.result.Result.TheVariants.{Ok, Err}
 use native.Mathlib.Omega.{arith}
 use lib.Dec.{ltb}
 use lib.ListN.{length}
@@ -21,9 +23,8 @@ use Rattle.laws.proofs.First.{test, untrue, choose-go, choose-stop}
 use Rattle.chunk_laws.proofs.File.{header-cases, good-begun, rows-unbegun, read-unbegun}
 use Rattle.chunk.specs.declared.parts.Layout.{Layout}
 use Rattle.walk.specs.declared.answers.Header.{Header}
-use Rattle.walk.specs.declared.answers.Step.{Step}
 use Rattle.walk.specs.declared.cursor.Cursor.{Cursor}
-use Rattle.walk.specs.Walk.{header_of, place_after, chunk_at, stop_with, step_of}
+use Rattle.walk.specs.Walk.{header_of, place_after, chunk_at, step_of}
 use Rattle.walk.specs.Index.{count_of, last_of, Indexed}
 use Rattle.walk.specs.Cursor.{Behind, cursor_of, cursor_none, numbered, cursor_unbegun, cursor_at, At}
 use Rattle.walk.proofs.Stages.{header-number, header_is}
@@ -44,15 +45,15 @@ module _ (file : List ℕ) (n : ℕ) where
 
   module _ (e : header_fault file ≡ 0) where
     pub cursor-row : n < length (rows_of file)
-        → cursor_at file n ≡ cursor_of (header_of file) n (place_after file n) (record { go = true; number = 0; layout = chunk_at file (place_after file n) })
+        → cursor_at file n ≡ cursor_of (header_of file) n (place_after file n) (Ok (chunk_at file (place_after file n)))
     unfolding step_of
     cursor-row h = cursor-begun e ∙ rw (lt-ltb n (length (rows_of file)) h)
 
-    cursor-end : length (rows_of file) ≤ n → cursor_at file n ≡ cursor_of (header_of file) n (place_after file n) (stop_with (reading file).number)
+    cursor-end : length (rows_of file) ≤ n → cursor_at file n ≡ cursor_of (header_of file) n (place_after file n) (Err (reading file).number)
     unfolding step_of
     cursor-end h = cursor-begun e ∙ rw (le-ltb n (length (rows_of file)) h)
 
-pub cursor-behind : {file : List ℕ} {h : Header} {n at : ℕ} → Behind file h n at → {s : Step} → s ≡ step_of file n
+pub cursor-behind : {file : List ℕ} {h : Header} {n at : ℕ} → Behind file h n at → {s : Result Layout ℕ} → s ≡ step_of file n
     → {index : List ℕ} → Indexed file (n + 1) index → At file (cursor_of h n at s) index
 cursor-behind {file} {h} {n} w is more =
     let e = (header_is h file w.header_is w.whole).whole in
@@ -60,7 +61,7 @@ cursor-behind {file} {h} {n} w is more =
 
 -- at a row that is known to be there
 pub known-cursor : {file : List ℕ} {h : Header} {n at : ℕ} → Behind file h n at → n < length (rows_of file) → {l : Layout} → l ≡ chunk_at file at
-    → cursor_of h n at (record { go = true; number = 0; layout = l }) ≡ cursor_at file n
+    → cursor_of h n at (Ok l) ≡ cursor_at file n
 known-cursor {file} {h} {n} w less is =
     let e = (header_is h file w.header_is w.whole).whole in
     rw (is, w.header_is, w.place_is) (sym (cursor-row file n e less))
@@ -106,7 +107,7 @@ module _ (file : List ℕ) (c : Cursor) (n : ℕ) (is : c ≡ cursor_at file n) 
   -- a cursor that goes
   module _ (g : c.go ≡ true) where
     going : {A : Type 0} → (header_fault file ≡ 0 → n < length (rows_of file) → A) → A
-    unfolding cursor_unbegun cursor_none stop_with
+    unfolding cursor_unbegun cursor_none
     going f =
         header-cases file
         (λ e. test (ltb n (length (rows_of file)))
@@ -135,7 +136,7 @@ module _ (file : List ℕ) (c : Cursor) (n : ℕ) (is : c ≡ cursor_at file n) 
 
   -- one that stops, behind no more rows than there are
   pub cursor-stopped : n ≤ length (rows_of file) → c.go ≡ false → Stops file c
-  unfolding cursor_unbegun cursor_none stop_with reading with_header halt
+  unfolding cursor_unbegun cursor_none reading with_header halt
   cursor-stopped few g =
       header-cases file
       (λ e. test (ltb n (length (rows_of file)))

@@ -4,6 +4,7 @@
 --     Steps     the steps of a reading: places, rows, where it stops, a reading into n rows
 --     Index     the index of serial numbers
 --     Loops     what the functions over the steps need
+--     Sources   a file with its whole header
 --     Ahead     the rows known to be there, by the chunks ahead
 --     Cursors   the cursor over the rows
 --     Places    the rows once more, behind a reading
@@ -14,6 +15,7 @@ pub mod Serials
 pub mod Steps
 pub mod Index
 pub mod Loops
+pub mod Sources
 pub mod Ahead
 pub mod Cursors
 pub mod PlaceLaws

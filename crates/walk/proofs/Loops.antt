@@ -1,11 +1,13 @@
 -- What the functions over the steps need of the reading: a chunk read at a place, one turn of a loop, each answer.
---     given-..          the chunk and its serial number, from the parts of the file that are handed on
+--     given-..          the chunk, from the parts of the file that are handed on
 --     turn              from one row to the next
 --     step-..           the answers of a step
 --     seen-passed seen_more with-there row-only row_other   the serial number of the chunk of a row, compared
---     numbered-.. between-.. late-there early-there   the answers on a serial number
+--     numbered-.. between-..   the answers on a serial number
 -- Assumes nothing.
 use Prim.Native.Nat.{ℕ, suc, ◌+◌, ◌-◌, ◌≤◌, ◌<◌}
+use Rattle.std.specs.Prelude.{Option, Some, None, is_some}
+use Rattle.std.specs.declared.result.Result.TheVariants.{Ok, Err}
 use mathlib.Core.Bool.{Bool, true, false, not, ◌&&◌, ◌||◌}
 use mathlib.Core.Path.{◌≡◌, refl, sym, ap, ◌∙◌}
 use mathlib.Core.List.{List, []}
@@ -27,9 +29,9 @@ use Rattle.laws.proofs.Loops.{part-drop}
 use Rattle.chunk_laws.proofs.File.{file-few}
 use Rattle.chunk_laws.proofs.Serials.{file-fresh}
 use Rattle.chunk.specs.declared.parts.Layout.{Layout}
-use Rattle.walk.specs.declared.answers.Numbered.{Numbered}
+use Rattle.walk.specs.declared.answers.Placed.{Placed}
 use Rattle.chunk.specs.Layout.{layout_of, parts_of, faulty, WholeLayout}
-use Rattle.walk.specs.Walk.{place_after, chunk_at, stop_with, step_of, numbered_of, between_of}
+use Rattle.walk.specs.Walk.{place_after, chunk_at, step_of, numbered_of, between_of}
 use Rattle.walk.proofs.Stages.{mark-part}
 use Rattle.walk.proofs.Steps.{serials_past, rest_after, fault_after, Stopped, after-cases, row-place, row-serial, row-unfaulted, place-suc, place-fits}
 use Rattle.walk.proofs.Serials.{known_past, known_more, with-here, with-least, known-with, with-only, with-other}
@@ -57,17 +59,6 @@ module _ (file : List ℕ) (z : header_fault file ≡ 0) (n : ℕ) (count : n �
   pub given-whole : (l : Layout) → l ≡ chunk_at file at → l.number ≡ 0
       → WholeLayout l (take (65 + n - 65) (drop 65 file)) (take (length file - at) (drop at file))
   given-whole l is w = record { llc = is_llc file; is = is ∙ sym (given-chunk (is_llc file) refl); whole = w }
-
-  module _ (w : chunk_fault (is_llc file) (mark_of file) (drop at file) ≡ 0) where
-    pub given-known : (llc : Bool) → llc ≡ is_llc file → chunk_fault llc (take (65 + n - 65) (drop 65 file)) (take (length file - at) (drop at file)) ≡ 0
-    given-known llc is = rw (mark-part file z n count, part-drop file at, is) w
-
-    pub given-parts : parts_of (take (65 + n - 65) (drop 65 file)) (take (length file - at) (drop at file)) ≡ chunk_at file at
-    unfolding chunk_at layout_of
-    given-parts = rw (mark-part file z n count, part-drop file at) (sym (choose-go (chunk_fault (is_llc file) (mark_of file) (drop at file)) _ faulty w))
-
-  pub given-serial : serial_of (take (65 + n - 65) (drop 65 file)) (take (length file - at) (drop at file)) ≡ serial_of (mark_of file) (drop at file)
-  given-serial = rw (mark-part file z n count, part-drop file at)
 
 -- ---- one turn
 
@@ -113,7 +104,7 @@ module _ (file : List ℕ) (e : header_fault file ≡ 0) where
 
   -- ---- a step
 
-  stopped-step : (i k : ℕ) → Stopped file i k → stop_with k ≡ step_of file i
+  stopped-step : (i k : ℕ) → Stopped file i k → Err k ≡ step_of file i
   unfolding step_of
   stopped-step i k w = rw (le-ltb i (length (rows_of file)) (omega (arith, w.count)), w.number_is)
 
@@ -126,7 +117,7 @@ module _ (file : List ℕ) (e : header_fault file ≡ 0) where
 
   -- row i is there
   pub step_row : (i at : ℕ) → i < length (rows_of file) → at ≡ place_after file i → (l : Layout) → l ≡ chunk_at file at
-      → record { go = true; number = 0; layout = l } ≡ step_of file i
+      → Ok l ≡ step_of file i
   unfolding step_of
   step_row i at h p l is = rw (lt-ltb i (length (rows_of file)) h, is, p)
 
@@ -137,7 +128,7 @@ module _ (file : List ℕ) (e : header_fault file ≡ 0) where
         let k = simp length-drop at (ap length q) in
         omega (arith, place-fits file e i h)
 
-    pub step_end : at ≡ length file → stop_with 0 ≡ step_of file i
+    pub step_end : at ≡ length file → Err 0 ≡ step_of file i
     unfolding rest_after is_empty
     step_end q =
         let nothing : drop (place_after file i) file ≡ [] = rw (sym p, q) (drop-length file) in
@@ -148,7 +139,7 @@ module _ (file : List ℕ) (e : header_fault file ≡ 0) where
 
     -- bytes stand at the place
     module _ (more : at ≡ length file → ⊥) where
-      stop-with : (k : ℕ) → fault_after file i ≡ suc k → stop_with (suc k) ≡ step_of file i
+      stop-with : (k : ℕ) → fault_after file i ≡ suc k → Err (suc k) ≡ step_of file i
       stop-with k f =
           after-cases file e i h
           (λ r w. absurd (more (ended r)))
@@ -170,16 +161,16 @@ module _ (file : List ℕ) (e : header_fault file ≡ 0) where
             ∙ ap (λ (q : ℕ). (layout_of (is_llc file) (mark_of file) (drop q file)).number) p
             ∙ layout-number (is_llc file) (mark_of file) (drop (place_after file i) file)
 
-        pub step-fault : (l.number ≡ 0 → ⊥) → stop_with l.number ≡ step_of file i
+        pub step-fault : (l.number ≡ 0 → ⊥) → Err l.number ≡ step_of file i
         step-fault y =
             cases l.number (λ z. absurd (y z))
-            (λ k z. ap stop_with z ∙ stop-with k (fault-is i ∙ rw (sym number_is, z) (⊳-stop (suc k) _ (λ q. omega arith))))
+            (λ k z. ap (λ (n : ℕ). Err n) z ∙ stop-with k (fault-is i ∙ rw (sym number_is, z) (⊳-stop (suc k) _ (λ q. omega arith))))
 
         module _ (z : l.number ≡ 0) (b : Bool) (x : List ℕ) (serial-is : x ≡ serial_of (mark_of file) (drop at file)) (seen-is : b ≡ known x (serials_of (take i (rows_of file)))) where
           seen_here : b ≡ known (serial_of (mark_of file) (drop (place_after file i) file)) (serials_of (take i (rows_of file)))
           seen_here = rw (sym p, sym serial-is) seen-is
 
-          pub step-seen : b ≡ true → stop_with 9 ≡ step_of file i
+          pub step-seen : b ≡ true → Err 9 ≡ step_of file i
           step-seen y =
               stop-with 8 (fault-is i ∙ rw (sym number_is, z, sym seen_here, y) (⊳-go 0 _ refl ∙ require-unmet false 9 refl))
 
@@ -189,7 +180,7 @@ module _ (file : List ℕ) (e : header_fault file ≡ 0) where
           pub step-turn : b ≡ false → Turn file i at l
           step-turn y = turn i at l (go-with (no-fault y)) p is
 
-          pub step-new : b ≡ false → record { go = true; number = 0; layout = l } ≡ step_of file i
+          pub step-new : b ≡ false → Ok l ≡ step_of file i
           step-new y = step_row i at (go-with (no-fault y)) p l is
 
 -- ---- the serial number of the chunk of row j
@@ -215,62 +206,64 @@ module _ (x file : List ℕ) (e : header_fault file ≡ 0) (j at : ℕ) (h : j <
   pub row_other : b ≡ false → row_with x (rows_of file) ≡ j → ⊥
   row_other y = with-other x (rows_of file) j h (sym same_row ∙ y)
 
-  pub between-here : (i k : ℕ) → i ≤ j → j < k → b ≡ true → record { there = true; row = j; place = at } ≡ between_of file i k x
+  pub between-here : (i k : ℕ) → i ≤ j → j < k → b ≡ true → Some (record { row = j; place = at }) ≡ between_of file i k x
   unfolding between_of
   between-here i k l m y = rw (row-only y, le-leb i j l, lt-ltb j k m, p)
 
-  pub numbered-here : known x (serials_of (take j (rows_of file))) ≡ false → b ≡ true → record { there = true; row = j; place = at } ≡ numbered_of file x
+  pub numbered-here : known x (serials_of (take j (rows_of file))) ≡ false → b ≡ true → Some (record { row = j; place = at }) ≡ numbered_of file x
   unfolding numbered_of
   numbered-here k y = rw (← with-there k y, lt-ltb j (length (rows_of file)) h, row-place file e j h, p)
 
 -- no row of the first i has the serial number
 module _ (x file : List ℕ) (i : ℕ) (h : i ≤ length (rows_of file)) (k : known x (serials_of (take i (rows_of file))) ≡ false) where
-  pub numbered-none : length (rows_of file) ≤ i → record { there = false; row = 0; place = 0 } ≡ numbered_of file x
+  pub numbered-none : length (rows_of file) ≤ i → None ≡ numbered_of file x
   unfolding numbered_of
   numbered-none l = rw (le-ltb (row_with x (rows_of file)) (length (rows_of file)) (omega (arith, with-least x (rows_of file) i h k)))
 
 -- ---- a search among the rows from i up to k
 
 module _ (x file : List ℕ) (i k : ℕ) where
-  pub between_none : (i ≤ row_with x (rows_of file) → k ≤ row_with x (rows_of file)) → (at : ℕ) → at ≡ place_after file k
-      → record { there = false; row = k; place = at } ≡ between_of file i k x
+  pub between_none : (i ≤ row_with x (rows_of file) → k ≤ row_with x (rows_of file)) → None ≡ between_of file i k x
   unfolding between_of
-  between_none f at p =
+  between_none f =
       test (leb i (row_with x (rows_of file)))
-      (λ q. rw (q, le-ltb (row_with x (rows_of file)) k (f (leb-true _ _ q)), p))
-      (λ q. rw (q, p))
+      (λ q. rw (q, le-ltb (row_with x (rows_of file)) k (f (leb-true _ _ q))))
+      (λ q. rw q)
 
-  module _ (r : Numbered) (is : r ≡ between_of file i k x) where
-    pub between_is : r.there ≡ (leb i (row_with x (rows_of file)) && ltb (row_with x (rows_of file)) k)
-    unfolding between_of
-    between_is = ap (λ (y : Numbered). y.there) is ∙ test (leb i (row_with x (rows_of file)) && ltb (row_with x (rows_of file)) k) (λ q. rw q) (λ q. rw q)
-
-    pub between-there : header_fault file ≡ 0 → k ≤ length (rows_of file) → r.there ≡ true → r ≡ numbered_of file x
-    unfolding between_of numbered_of
-    between-there e h y =
-        let q = sym between_is ∙ y in
-        let l : row_with x (rows_of file) < k = ltb-true _ _ (and_both (leb i (row_with x (rows_of file))) (ltb (row_with x (rows_of file)) k) q).1 in
-        let inside : row_with x (rows_of file) < length (rows_of file) = omega arith in
-        is ∙ rw (q, lt-ltb _ _ inside, row-place file e (row_with x (rows_of file)) inside)
+  between-found : (r : Option Placed) → r ≡ between_of file i k x → is_some r ≡ (leb i (row_with x (rows_of file)) && ltb (row_with x (rows_of file)) k)
+  unfolding between_of
+  between-found r is = ap is_some is ∙ test (leb i (row_with x (rows_of file)) && ltb (row_with x (rows_of file)) k) (λ q. rw q) (λ q. rw q)
 
 -- from the first row on
-pub between_known : (x file : List ℕ) (k : ℕ) → k ≤ length (rows_of file) → (r : Numbered) → r ≡ between_of file 0 k x → r.there ≡ known x (serials_of (take k (rows_of file)))
-between_known x file k h r is =
-    between_is x file 0 k r is ∙ rw (le-leb 0 (row_with x (rows_of file)) (omega arith)) (known-with x (rows_of file) k h)
+module _ (x file : List ℕ) (k : ℕ) (h : k ≤ length (rows_of file)) (r : Option Placed) (is : r ≡ between_of file 0 k x) where
+  pub between_known : is_some r ≡ known x (serials_of (take k (rows_of file)))
+  between_known =
+      between-found x file 0 k r is ∙ rw (le-leb 0 (row_with x (rows_of file)) (omega arith)) (known-with x (rows_of file) k h)
+
+  pub between-there : header_fault file ≡ 0 → is_some r ≡ true → r ≡ numbered_of file x
+  unfolding between_of numbered_of
+  between-there e y =
+      let w = row_with x (rows_of file) in
+      let q = sym (between-found x file 0 k r is) ∙ y in
+      let l : w < k = ltb-true _ _ (and_both (leb 0 w) (ltb w k) q).1 in
+      let inside : w < length (rows_of file) = omega arith in
+      is ∙ rw (q, lt-ltb _ _ inside, row-place file e w inside)
 
 -- first from row m up to row i, then before row m
-module _ (x file : List ℕ) (m i : ℕ) (l : m ≤ i) (r : Numbered) (is : r ≡ between_of file m i x) where
-  pub late-there : r.there ≡ true → r.there ≡ ltb (row_with x (rows_of file)) i
-  late-there y =
+module _ (x file : List ℕ) (m i : ℕ) (l : m ≤ i) where
+  pub between-late : (p : Placed) → Some p ≡ between_of file m i x → Some p ≡ between_of file 0 i x
+  unfolding between_of
+  between-late p is =
       let w = row_with x (rows_of file) in
-      y ∙ sym (and_both (leb m w) (ltb w i) (sym (between_is x file m i r is) ∙ y)).1
+      let q = sym (between-found x file m i _ is) in
+      is ∙ rw (q, le-leb 0 w (omega arith), (and_both (leb m w) (ltb w i) q).1)
 
-  pub early-there : r.there ≡ false → (u : Numbered) → u ≡ between_of file 0 m x → u.there ≡ ltb (row_with x (rows_of file)) i
-  early-there n u e =
+  pub between-early : None ≡ between_of file m i x → between_of file 0 m x ≡ between_of file 0 i x
+  unfolding between_of
+  between-early is =
       let w = row_with x (rows_of file) in
-      let none = sym (between_is x file m i r is) ∙ n in
-      between_is x file 0 m u e
-      ∙ rw (le-leb 0 w (omega arith))
+      let none = sym (between-found x file m i _ is) in
+      rw (le-leb 0 w (omega arith))
       (test (ltb w m)
-      (λ q. q ∙ sym (lt-ltb w i (omega (arith, ltb-true w m q))))
-      (λ q. q ∙ sym (rw (le-leb m w (ltb-false w m q)) at none)))
+      (λ q. rw (q, lt-ltb w i (omega (arith, ltb-true w m q))))
+      (λ q. rw (q, rw (le-leb m w (ltb-false w m q)) at none)))

@@ -5,8 +5,9 @@
 --     named-..            the answers of row_of
 --     number_is refused   its number is that of the first test that refuses, whichever tests follow
 --     Named, named        the row is there: its parts, by the layout of its chunk, and inside the file
+--     named-goes refused_by   a row answered, or a refusal
 --     named_small         the file is within the limit
---     named-later earlier-place   what was answered for an earlier row
+--     named-later refused-later earlier-place   what was answered for an earlier row
 -- Assumes nothing.
 use Prim.Native.Nat.{ℕ, suc, ◌+◌, ◌≤◌, ◌<◌}
 use mathlib.Core.Bool.{Bool, true, false}
@@ -14,16 +15,20 @@ use mathlib.Core.Path.{◌≡◌, refl, sym, ap, ◌∙◌}
 use mathlib.Core.List.{List, [], ◌∷◌}
 use native.Mathlib.Omega.{arith}
 use lib.Dec.{leb, ltb}
+use Rattle.std.specs.declared.result.Result.TheVariants.{Ok}
 use lib.ListN.{length, drop}
 use borrow.Author.Tests.{le-leb, lt-leb, leb-true, leb-false}
 use Rattle.metafile.specs.declared.Row.{Row}
+use Rattle.metafile.specs.declared.refusal.Refusal.{Refusal}
+use Rattle.metafile.specs.Refusals.{number_of}
+use Rattle.lines.proofs.Runs.{refused as some}
 use Rattle.metafile.specs.Header.{is_llc, mark_of, header_fault}
 use Rattle.metafile.specs.Chunk.{chunk_fault, row_at}
 use Rattle.metafile.specs.Reading.{rows_of}
 use Rattle.metafile.specs.Answers.{Test, refuse, first_refusal, limit, over_limit}
 use Rattle.metafile.specs.Append.{row_no}
 use Rattle.metafile.specs.Calls.{contents_tests}
-use Rattle.laws.proofs.First.{cases, or-false, choose-go, choose-stop}
+use Rattle.laws.proofs.First.{cases, untrue, or-false, choose-go, choose-stop}
 use Rattle.laws.proofs.Accepted.{refusal-none, refusal-first, refusal-next, tests-end, limit-over, limit-under, limit-small}
 use Rattle.chunk_laws.proofs.File.{header-cases, rows-unbegun}
 use Rattle.chunk_laws.proofs.Places.{RowInside, row_inside}
@@ -123,7 +128,7 @@ module _ (file : List ℕ) (k : ℕ) (c : Cursor) (e : c ≡ named_of file k) wh
     unfolding named_of
     at_row = e ∙ choose-go (first_refusal (contents_tests file k)) _ _ none
 
-    row-all : c ≡ cursor_of (header_of file) k (place_after file k) (record { go = true; number = 0; layout = chunk_at file (place_after file k) })
+    row-all : c ≡ cursor_of (header_of file) k (place_after file k) (Ok (chunk_at file (place_after file k)))
     row-all = at_row ∙ cursor-row file k begun passed.1
 
     layout_is : c.layout ≡ parts_of (mark_of file) (drop (place_after file k) file)
@@ -164,6 +169,21 @@ module _ (file : List ℕ) (k : ℕ) (c : Cursor) (e : c ≡ named_of file k) wh
   unfolding contents_tests
   refused z ts = tests-stop _ _ ts (λ q. z (number_is ∙ q)) ∙ sym number_is
 
+module _ (file : List ℕ) (k : ℕ) where
+  -- a row is answered, as a cursor that goes
+  pub named-goes : {c : Cursor} → c ≡ named_of file k → c.go ≡ true → Named file k c
+  unfolding named_of cursor_none
+  named-goes {c} e g =
+      cases (first_refusal (contents_tests file k))
+      (λ z. named file k c e (number_is file k c e ∙ z))
+      (λ n z. untrue (sym (ap (λ (x : Cursor). x.go) (e ∙ choose-stop (first_refusal (contents_tests file k)) _ _ (λ q. omega arith))) ∙ g))
+
+  -- a refusal is: that of the first test that refuses, whichever tests follow
+  pub refused_by : (r : Refusal) → cursor_none (number_of r) ≡ named_of file k → (ts : List Test)
+      → first_refusal (refuse 11 (over_limit (length file ∷ [])) ∷ refuse 13 (leb (length (rows_of file)) k) ∷ ts) ≡ number_of r
+  unfolding cursor_none
+  refused_by r e ts = refused file k (cursor_none (number_of r)) e (some r) ts
+
 pub named_small : {file : List ℕ} {k : ℕ} {c : Cursor} → Named file k c → length file ≤ 1073741824
 named_small {file} w = limit-small (length file) [] w.file-small
 
@@ -189,6 +209,11 @@ module _ (file : List ℕ) (m k : ℕ) (l : m ≤ k) (c : Cursor) (e : c ≡ nam
   earlier-place w =
       let n = named-earlier w in
       n.place_is ∙ row-place file (place-begun n) m n.in_rows
+
+-- a later row is refused as the earlier is
+pub refused-later : (file : List ℕ) (m k : ℕ) → m ≤ k → (r : Refusal) → cursor_none (number_of r) ≡ named_of file m → cursor_none (number_of r) ≡ named_of file k
+unfolding cursor_none
+refused-later file m k l r e = named-later file m k l (cursor_none (number_of r)) e (some r)
 
 pub named-at : {file : List ℕ} {k : ℕ} {c : Cursor} → Named file k c → {index : List ℕ} → Indexed file (k + 1) index → At file c index
 named-at w more = record { is = w.is; few = omega (arith, w.in_rows, w.row_is); indexed = rw w.row_is more }

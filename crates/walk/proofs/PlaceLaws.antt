@@ -1,6 +1,6 @@
 -- The rows once more, behind a reading that has gone through all of them (specs/Known).
 --     ended    a cursor that stops: how many rows there are
---     chunk-asked  a row's chunk is known to be whole
+--     row-inside row-whole   a row's chunk is known to be whole, inside the file
 --     row-places   where the parts of a row's chunk stand
 -- Assumes nothing.
 use Prim.Native.Nat.{ℕ, suc, ◌+◌, ◌≤◌, ◌<◌}
@@ -21,7 +21,7 @@ use Rattle.chunk.specs.declared.parts.Layout.{Layout}
 use Rattle.chunk.specs.Layout.{layout_of, parts_of, faulty}
 use Rattle.walk.specs.declared.answers.Header.{Header}
 use Rattle.walk.specs.declared.cursor.Cursor.{Cursor}
-use Rattle.walk.specs.Walk.{header_of, place_after, chunk_at, serial_at}
+use Rattle.walk.specs.Walk.{place_after, chunk_at, serial_at}
 use Rattle.walk.specs.Cursor.{Behind, At}
 use Rattle.walk.specs.Known.{Ended, RowPlaces}
 use Rattle.walk.proofs.Stages.{header_is}
@@ -41,16 +41,20 @@ ended {file} {c} w g =
           (λ e. absurd (omega (arith, s.count, ap length (rows-unbegun file e))));
     }
 
+-- the chunk of a row is whole, inside the file
+module _ {file : List ℕ} {h : Header} {n at : ℕ} (b : Behind file h n at) (less : n < length (rows_of file)) where
+  pub row-inside : at ≤ length file
+  row-inside = place_inside file (header_is h file b.header_is b.whole).whole n at b.few b.place_is
+
+  pub row-whole : chunk_fault (is_llc file) (mark_of file) (drop at file) ≡ 0
+  row-whole = place-whole file (header_is h file b.header_is b.whole).whole n at less b.place_is
+
 module _ (file : List ℕ) (h : Header) (n at : ℕ) (b : Behind file h n at) (less : n < length (rows_of file)) where
   begun : header_fault file ≡ 0
   begun = (header_is h file b.header_is b.whole).whole
 
-  -- what known_chunk asks for
-  pub chunk-asked : (h ≡ header_of file) × ((h.number ≡ 0) × ((at ≤ length file) × (chunk_fault (is_llc file) (mark_of file) (drop at file) ≡ 0)))
-  chunk-asked = (b.header_is, (b.whole, (place_inside file begun n at b.few b.place_is, place-whole file begun n at less b.place_is)))
-
   module _ (l : Layout) (is : l ≡ chunk_at file at) where
-    pub turned : Turn file n at l
+    turned : Turn file n at l
     turned = turn file begun n at l less b.place_is is
 
     dependencies-are : l.dependencies ≡ (row_no (rows_of file) n).dependencies

@@ -1,5 +1,6 @@
 -- The file header's stages, as the functions answer them ("File header"; "1 first 65 bytes don't match", "2 NUL000",
 -- "3 mark begins "MiniChunk="", "4 bytes end too soon").
+--     faulted unfaulted   a fault, by Result
 --     title-..    the first 65 bytes; mark-..: the mark as a field; stage-..: the header's first fault
 --     header-..   what the header answers; HeaderIs: one without a fault
 -- Assumes nothing.
@@ -9,6 +10,11 @@ use mathlib.Core.Path.{◌≡◌, refl, sym, ap, ◌∙◌}
 use mathlib.Core.List.{List}
 use native.Mathlib.Omega.{arith}
 use lib.ListN.{length, take, drop, length-drop}
+use Rattle.std.specs.Prelude.{is_err}
+use Rattle.std.specs.declared.result.Result.{Result}
+use Rattle.std.specs.declared.result.Result.TheVariants.{Ok, Err}
+use Rattle.metafile.specs.declared.refusal.Refusal.{Refusal}
+use Rattle.metafile.specs.Refusals.{fault_in}
 use Rattle.metafile.specs.Bytes.{part, ◌⊳◌, require, is_zero, same, starts, sum}
 use Rattle.metafile.specs.Fields.{count_value}
 use Rattle.metafile.specs.Lines.{LLC, lines_of, field_fault, run, table}
@@ -16,14 +22,25 @@ use Rattle.metafile.specs.Closing.{closing, closing_end, sum_good}
 use Rattle.metafile.specs.Multi.{mini_label}
 use Rattle.metafile.specs.Header.{title, is_llc, mark_length, mark_of, title_fault, mark_fault, header_fault, header_end, header_good}
 use Rattle.table.specs.Codes.{lines_from}
-use Rattle.laws.proofs.First.{cases, is_zero-is, is_zero-not, ⊳-stop, ⊳-go, require-met, require-unmet, choose-go, choose-stop}
+use Rattle.laws.proofs.First.{cases, untrue, is_zero-is, is_zero-not, ⊳-stop, ⊳-go, require-met, require-unmet, choose-go, choose-stop}
 use Rattle.laws.proofs.Loops.{part-drop}
 use Rattle.laws.proofs.Table.{field-short, field-long, field-enough}
 use Rattle.laws.proofs.Distances.{lines}
 use Rattle.chunk_laws.proofs.File.{header-whole, length-mark, fits-header_end}
 use Rattle.walk.specs.declared.answers.Header.{Header}
 use Rattle.lines.specs.Words.{word_no}
+use Rattle.lines.proofs.Runs.{refused}
 use Rattle.walk.specs.Walk.{header_of}
+
+-- ---- a fault, by Result
+
+pub faulted : {A : Type 0} (r : Result A Refusal) → is_err r ≡ true → fault_in r ≡ 0 → ⊥
+faulted (Ok a) e = untrue e
+faulted (Err x) e = refused x
+
+pub unfaulted : {A : Type 0} (r : Result A Refusal) → is_err r ≡ false → fault_in r ≡ 0
+unfaulted (Ok a) e = refl
+unfaulted (Err x) e = untrue (sym e)
 
 -- ---- the first 65 bytes
 

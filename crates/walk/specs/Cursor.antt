@@ -1,12 +1,16 @@
 -- A cursor over the rows of a file ("Reading"): at a row, or where the reading stops. Assumes nothing.
-use Rattle.std.specs.Prelude.{ℕ, ◌+◌, ◌≤◌, false, ◌≡◌, List, length}
+use Rattle.std.specs.Prelude.{ℕ, ◌+◌, ◌≤◌, false, ◌≡◌, List, length, is_ok}
+use Rattle.std.specs.declared.result.Result.{Result}
+use Rattle.std.specs.declared.result.Result.TheVariants.{Ok, Err}
+use Rattle.metafile.specs.declared.refusal.Refusal.{Refusal}
+use Rattle.metafile.specs.Refusals.{number_of}
 use Rattle.metafile.specs.Bytes.{choose}
 use Rattle.metafile.specs.Header.{header_fault}
 use Rattle.metafile.specs.Reading.{unbegun, rows_of}
 use Rattle.metafile.specs.Answers.{first_refusal}
 use Rattle.metafile.specs.Calls.{contents_tests}
 use Rattle.walk.specs.declared.answers.Header.{Header}
-use Rattle.walk.specs.declared.answers.Step.{Step}
+use Rattle.chunk.specs.declared.parts.Layout.{Layout}
 use Rattle.walk.specs.declared.cursor.Cursor.{Cursor}
 use Rattle.walk.specs.Walk.{header_of, place_after, no_layout, step_of}
 use Rattle.walk.specs.Index.{Indexed}
@@ -19,8 +23,16 @@ pub record Behind (file : List ℕ) (h : Header) (n at : ℕ) : Type 0 where
   pub place_is : at ≡ place_after file n
 
 -- behind n rows, by the step that is made there
-abbrev pub cursor_of : Header → ℕ → ℕ → Step → Cursor
-cursor_of h n at s = record { go = s.go; number = s.number; row = n; at = at; layout = s.layout; header = h }
+abbrev pub stop_of : Result Layout ℕ → ℕ
+stop_of (Ok l) = 0
+stop_of (Err n) = n
+
+abbrev pub layout_in : Result Layout ℕ → Layout
+layout_in (Ok l) = l
+layout_in (Err n) = no_layout
+
+abbrev pub cursor_of : Header → ℕ → ℕ → Result Layout ℕ → Cursor
+cursor_of h n at s = record { go = is_ok s; number = stop_of s; row = n; at = at; layout = layout_in s; header = h }
 
 -- no row at all: this number
 unfoldable pub cursor_none : ℕ → Cursor
@@ -58,3 +70,8 @@ pub record At (file : List ℕ) (c : Cursor) (index : List ℕ) : Type 0 where
 -- "11 a lent byte buffer over 2^30" and "13 row not in the reading"
 unfoldable pub named_of : List ℕ → ℕ → Cursor
 named_of file k = choose (first_refusal (contents_tests file k)) (cursor_at file k) cursor_none
+
+-- the same, of what a call answers
+abbrev pub named_in : Result Cursor Refusal → Cursor
+named_in (Ok c) = c
+named_in (Err r) = cursor_none (number_of r)

@@ -1,6 +1,8 @@
 -- What the functions of this crate answer, by the definitions of the crate metafile: the file header, one step of the
 -- reading ("Reading"), and a row by its serial number. Assumes nothing.
-use Rattle.std.specs.Prelude.{ℕ, zero, suc, ◌+◌, true, false, cond, ◌&&◌, List, leb, ltb, length, drop}
+use Rattle.std.specs.Prelude.{ℕ, zero, suc, ◌+◌, false, cond, ◌&&◌, List, Option, Some, None, leb, ltb, length, drop}
+use Rattle.std.specs.declared.result.Result.{Result}
+use Rattle.std.specs.declared.result.Result.TheVariants.{Ok, Err}
 use Rattle.metafile.specs.declared.Row.{Row}
 use Rattle.metafile.specs.Bytes.{choose}
 use Rattle.metafile.specs.Header.{is_llc, mark_length, mark_of, header_fault, header_end, header_good}
@@ -11,8 +13,7 @@ use Rattle.metafile.specs.Calls.{row_with}
 use Rattle.chunk.specs.declared.parts.Layout.{Layout}
 use Rattle.chunk.specs.Layout.{layout_of}
 use Rattle.walk.specs.declared.answers.Header.{Header}
-use Rattle.walk.specs.declared.answers.Step.{Step}
-use Rattle.walk.specs.declared.answers.Numbered.{Numbered}
+use Rattle.walk.specs.declared.answers.Placed.{Placed}
 
 -- the file header: its first fault, or where it ends, the mark's length, the strategy, sum good or not
 unfoldable pub header_of : List ℕ → Header
@@ -43,27 +44,23 @@ unfoldable pub no_layout : Layout
 no_layout =
     record { number = 0; header = 0; contents = 0; bytes = 0; end = 0; dependencies = 0; multichunk = false }
 
--- the reading stops with this number
-unfoldable pub stop_with : ℕ → Step
-stop_with n = record { go = false; number = n; layout = no_layout }
-
 -- what stands behind i rows: the next row's chunk, or the number with which the reading stops
-unfoldable pub step_of : List ℕ → ℕ → Step
+unfoldable pub step_of : List ℕ → ℕ → Result Layout ℕ
 step_of file i =
     cond (ltb i (length (rows_of file)))
-    (record { go = true; number = 0; layout = chunk_at file (place_after file i) })
-    (stop_with (reading file).number)
+    (Ok (chunk_at file (place_after file i)))
+    (Err (reading file).number)
 
 -- the row with a serial number, and its place, where there is such a row
-unfoldable pub numbered_of : List ℕ → List ℕ → Numbered
+unfoldable pub numbered_of : List ℕ → List ℕ → Option Placed
 numbered_of file x =
     cond (ltb (row_with x (rows_of file)) (length (rows_of file)))
-    (record { there = true; row = row_with x (rows_of file); place = (row_no (rows_of file) (row_with x (rows_of file))).place })
-    (record { there = false; row = 0; place = 0 })
+    (Some (record { row = row_with x (rows_of file); place = (row_no (rows_of file) (row_with x (rows_of file))).place }))
+    None
 
--- the same among the rows from i up to k; where there is none, k and where the last of them ends
-unfoldable pub between_of : List ℕ → ℕ → ℕ → List ℕ → Numbered
+-- the same among the rows from i up to k
+unfoldable pub between_of : List ℕ → ℕ → ℕ → List ℕ → Option Placed
 between_of file i k x =
     cond (leb i (row_with x (rows_of file)) && ltb (row_with x (rows_of file)) k)
-    (record { there = true; row = row_with x (rows_of file); place = place_after file (row_with x (rows_of file)) })
-    (record { there = false; row = k; place = place_after file k })
+    (Some (record { row = row_with x (rows_of file); place = place_after file (row_with x (rows_of file)) }))
+    None

@@ -1,6 +1,4 @@
 // What the functions of this crate answer.
-use chunk::Layout;
-
 // The file header; where the number is not 0, all else is 0 and false.
 #[derive(Clone, Copy)]
 pub struct Header {
@@ -13,14 +11,6 @@ pub struct Header {
     pub good: bool,
 }
 
-#[derive(Clone, Copy)]
-pub struct Step {
-    // the next row is there, and this is its chunk; else the reading stops with the number
-    pub go: bool,
-    pub number: u8,
-    pub layout: Layout,
-}
-
 // Rows that are known to be there.
 #[derive(Clone, Copy)]
 pub struct Ahead {
@@ -29,10 +19,9 @@ pub struct Ahead {
     pub last: usize,
 }
 
-// A row by its serial number; what row and place are where there is none, each function says.
+// A row, and where its chunk begins.
 #[derive(Clone, Copy)]
-pub struct Numbered {
-    pub there: bool,
+pub struct Placed {
     pub row: usize,
     pub place: usize,
 }

@@ -9,6 +9,7 @@ use crate::answers::Header;
 use crate::earlier::LAST_AT;
 use crate::headers::{header, unbegun};
 use crate::rows::{no_layout, step};
+use crate::source::{Position, Source};
 use chunk::Layout;
 
 // Where all rows may be asked for: behind every row.
@@ -39,13 +40,12 @@ pub fn none(number: u8) -> Cursor
         llc: false,
         good: false,
     };
-    let layout = no_layout();
     Cursor {
         go: false,
         number,
         row: 0,
         at: 0,
-        layout,
+        layout: no_layout(),
         header,
     }
 }
@@ -63,15 +63,25 @@ pub fn behind(
     requires indexed { Indexed file.now n index.old }
     ensures { At file.now result index.new × (result.row ≡ n) }
 {
-    let s = step(file, header, at, n, until, index);
-    let layout = s.layout;
-    Cursor {
-        go: s.go,
-        number: s.number,
-        row: n,
-        at,
-        layout,
-        header,
+    let source = Source { file, header };
+    let here = Position { source, row: n, at };
+    match step(here, until, index) {
+        Ok(layout) => Cursor {
+            go: true,
+            number: 0,
+            row: n,
+            at,
+            layout,
+            header,
+        },
+        Err(number) => Cursor {
+            go: false,
+            number,
+            row: n,
+            at,
+            layout: no_layout(),
+            header,
+        },
     }
 }
 
@@ -95,8 +105,7 @@ pub fn next(file: &[u8], c: Cursor, until: usize, index: &mut [u32]) -> Cursor
     requires go_value { c.go ≡ true }
     ensures { At file.now result index.new × (result.row ≡ c.row + 1) }
 {
-    let h = c.header;
-    behind(file, h, c.row + 1, c.at + c.layout.end, until, index)
+    behind(file, c.header, c.row + 1, c.at + c.layout.end, until, index)
 }
 
 // At row k, which is behind that of the cursor, where a look ahead ended with it; else at the next row.
@@ -107,12 +116,9 @@ pub fn toward(file: &[u8], c: Cursor, k: usize, until: usize, index: &mut [u32])
     ensures { At file.now result index.new × (c.row < result.row) × (result.row ≤ k) }
 {
     let n = index[0] as usize;
-    if k < n {
-        if n - k == 1 {
-            let h = c.header;
-            let at = index[LAST_AT] as usize;
-            return behind(file, h, k, at, until, index);
-        }
+    if k < n && n - k == 1 {
+        let at = index[LAST_AT] as usize;
+        return behind(file, c.header, k, at, until, index);
     }
     next(file, c, until, index)
 }

@@ -5,12 +5,12 @@ ghost use Rattle.metafile.specs.Bytes.{part};
 ghost use Rattle.metafile.specs.Fields.{known};
 ghost use Rattle.metafile.specs.Reading.{rows_of, serials_of};
 ghost use Rattle.index.specs.Index.{size};
-ghost use Rattle.walk.specs.Walk.{header_of, place_after, serial_at, between_of};
+ghost use Rattle.walk.specs.Walk.{place_after, serial_at, between_of};
 ghost use Rattle.walk.specs.Index.{Indexed, Entered};
 
-use crate::answers::{Header, Numbered};
+use crate::answers::Placed;
 use crate::lookahead::rows_ahead;
-use crate::rows::{known_chunk, serial_at};
+use crate::source::{Position, Source};
 use table::places::SERIAL;
 
 // The largest count that an entry holds.
@@ -32,111 +32,76 @@ pub fn empty_index() -> [u32; INDEX]
     [0; INDEX]
 }
 
-// The row with a serial number among those from row i, which begins at `place`, up to row k; where there is none, k and where
-// the last of them ends.
+// The row with a serial number among those from row i, which begins at `place`, up to row k.
 pub fn row_between(
-    file: &[u8],
-    h: Header,
+    source: Source,
     i: usize,
     place: usize,
     k: usize,
     serial: [u8; 38],
-) -> Numbered
-    requires h_value { h ≡ header_of file.now }
-    requires number_value { h.number ≡ 0 }
+) -> Option<Placed>
     requires i_le_k { i ≤ k }
-    requires k_in_bounds { k ≤ length (rows_of file.now) }
-    requires place_value { place ≡ place_after file.now i }
-    ensures { result ≡ between_of file.now i k serial }
+    requires k_in_bounds { k ≤ length (rows_of source.file.now) }
+    requires place_value { place ≡ place_after source.file.now i }
+    ensures { result ≡ between_of source.entry.file.now i k serial }
 {
     let mut at = place;
-    let mut j = i;
-    while j < k {
-        let l = known_chunk(file, h, at);
-        if fields::same_serial(serial, serial_at(file, h, at, l)) {
-            return Numbered {
-                there: true,
-                row: j,
-                place: at,
-            };
+    for row in i..k {
+        let l = source.known_chunk(at);
+        if fields::same_serial(serial, source.serial_at(at, l)) {
+            return Some(Placed { row, place: at });
         }
         at += l.end;
-        j += 1;
     }
-    Numbered {
-        there: false,
-        row: k,
-        place: at,
-    }
+    None
 }
 
 // Whether a serial number is in one of the first i rows: their chunks are read again, from the header on.
-fn rescanned(file: &[u8], h: Header, i: usize, serial: [u8; 38]) -> bool
-    requires h_value { h ≡ header_of file.now }
-    requires number_value { h.number ≡ 0 }
-    requires i_in_bounds { i ≤ length (rows_of file.now) }
-    ensures { result ≡ known serial (serials_of (take i (rows_of file.now))) }
+fn rescanned(source: Source, i: usize, serial: [u8; 38]) -> bool
+    requires i_in_bounds { i ≤ length (rows_of source.file.now) }
+    ensures { result ≡ known serial (serials_of (take i (rows_of source.entry.file.now))) }
 {
-    row_between(file, h, 0, h.end, i, serial).there
+    row_between(source, 0, source.header.end, i, serial).is_some()
 }
 
 // The same without the index, which is left for a look at the chunks ahead, up to row `until`.
-fn leave(
-    file: &[u8],
-    h: Header,
-    at: usize,
-    i: usize,
-    until: usize,
-    index: &mut [u32],
-    place: usize,
-) -> bool
-    requires h_value { h ≡ header_of file.now }
-    requires number_value { h.number ≡ 0 }
-    requires i_in_bounds { i ≤ length (rows_of file.now) }
-    requires at_value { at ≡ place_after file.now i }
-    requires place_value { place ≡ serial_at file.now at }
-    requires place_in_bounds { place + 38 ≤ length file.now }
+fn leave(here: Position, until: usize, index: &mut [u32], place: usize) -> bool
+    requires place_value { place ≡ serial_at here.source.file.now here.at }
+    requires place_in_bounds { place + 38 ≤ length here.source.file.now }
     requires index_len { length index.old ≡ size }
-    ensures { (result ≡ known (part place 38 file.now) (serials_of (take i (rows_of file.now)))) × Indexed file.now (i + 1) index.new }
+    ensures known { result ≡ known (part place 38 here.entry.source.file.now) (serials_of (take here.entry.row (rows_of here.entry.source.file.now))) }
+    ensures indexed { Indexed here.entry.source.file.now (here.entry.row + 1) index.new }
 {
-    let ahead = rows_ahead(file, h, i, at, until, index);
+    let source = here.source;
+    let ahead = rows_ahead(here, until, index);
     index[0] = ahead.rows as u32;
     index[LAST_AT] = ahead.last as u32;
     index[LEFT] = 1;
-    if i < ahead.rows {
+    if here.row < ahead.rows {
         return false;
     }
-    rescanned(file, h, i, fields::serial_from(&file[place..]))
+    rescanned(source, here.row, fields::serial_from(&source.file[place..]))
 }
 
-// Whether the serial number at `place`, that of the whole chunk at `at`, is in one of the first i rows. By the index it is new
-// where all i are entered in it and the place of its hash is empty, and then it is entered as that of row i. Where its tag
+// Whether the serial number at `place`, that of the whole chunk at a position, is in one of the rows before it. By the index it is new
+// where they are all entered in it and the place of its hash is empty, and then it is entered as that of row i. Where its tag
 // stands, their chunks are read again; where that is another's, or there is no room, the index is left. From then on the chunks
 // ahead are looked at wherever no more rows are known to be there.
-pub fn met(
-    file: &[u8],
-    h: Header,
-    at: usize,
-    i: usize,
-    until: usize,
-    index: &mut [u32],
-    place: usize,
-) -> bool
-    requires h_value { h ≡ header_of file.now }
-    requires number_value { h.number ≡ 0 }
-    requires i_in_bounds { i ≤ length (rows_of file.now) }
-    requires at_value { at ≡ place_after file.now i }
-    requires place_value { place ≡ serial_at file.now at }
-    requires place_in_bounds { place + 38 ≤ length file.now }
-    requires indexed { Indexed file.now i index.old }
-    ensures { (result ≡ known (part place 38 file.now) (serials_of (take i (rows_of file.now)))) × Entered file.now i (part place 38 file.now) index.new }
+pub fn met(here: Position, until: usize, index: &mut [u32], place: usize) -> bool
+    requires place_value { place ≡ serial_at here.source.file.now here.at }
+    requires place_in_bounds { place + 38 ≤ length here.source.file.now }
+    requires indexed { Indexed here.source.file.now here.row index.old }
+    ensures known { result ≡ known (part place 38 here.entry.source.file.now) (serials_of (take here.entry.row (rows_of here.entry.source.file.now))) }
+    ensures entered { Entered here.entry.source.file.now here.entry.row (part place 38 here.entry.source.file.now) index.new }
 {
     if index[LEFT] != 0 {
-        return leave(file, h, at, i, until, index, place);
+        return leave(here, until, index, place);
     }
-    if (index[0] as usize == i) & (i < LAST) {
+    let source = here.source;
+    let i = here.row;
+    if index[0] as usize == i && i < LAST {
         let end = place + SERIAL;
-        let hash = index::hash(&file[place..end]);
+        let hash = index::hash(&source.file[place..end]);
         let slot = index::place(index, hash);
         if slot < index.len() {
             if index[slot] == 0 {
@@ -144,10 +109,10 @@ pub fn met(
                 index[0] = (i + 1) as u32;
                 return false;
             }
-            if rescanned(file, h, i, fields::serial_from(&file[place..])) {
+            if rescanned(source, i, fields::serial_from(&source.file[place..])) {
                 return true;
             }
         }
     }
-    leave(file, h, at, i, until, index, place)
+    leave(here, until, index, place)
 }

@@ -9,7 +9,7 @@ ghost use Rattle.walk.specs.Known.{Ended, RowPlaces};
 
 use crate::answers::Header;
 use crate::cursor::{ALL, Cursor, next};
-use crate::rows::{known_chunk, serial_place};
+use crate::source::{Position, Source};
 use chunk::Layout;
 
 // Where the parts of a row's chunk stand in the file.
@@ -33,17 +33,16 @@ pub fn last(file: &[u8], from: Cursor, index: &mut [u32]) -> Cursor
     c
 }
 
-// The parts of row n, whose chunk, of this layout, begins at a place of the file.
-fn parts_of(file: &[u8], h: Header, n: usize, at: usize, l: Layout) -> Places
-    requires behind { Behind file.now h n at }
-    requires n_in_bounds { n < length (rows_of file.now) }
-    requires l_value { l ≡ chunk_at file.now at }
-    ensures { RowPlaces file.now h n at result }
+// The parts of the row at a position, whose chunk has this layout.
+fn parts_of(here: Position, l: Layout) -> Places
+    requires row_in_bounds { here.row < length (rows_of here.source.file.now) }
+    requires l_value { l ≡ chunk_at here.source.file.now here.at }
+    ensures { RowPlaces here.entry.source.file.now here.entry.source.header here.entry.row here.entry.at result }
 {
     Places {
-        serial: serial_place(file, h, at, l),
+        serial: here.source.serial_place(here.at, l),
         dependencies: l.dependencies,
-        end: at + l.end,
+        end: here.at + l.end,
     }
 }
 
@@ -53,7 +52,9 @@ pub fn row_at(file: &[u8], h: Header, n: usize, at: usize) -> Places
     requires n_in_bounds { n < length (rows_of file.now) }
     ensures { RowPlaces file.now h n at result }
 {
-    parts_of(file, h, n, at, known_chunk(file, h, at))
+    let source = Source { file, header: h };
+    let here = Position { source, row: n, at };
+    parts_of(here, source.known_chunk(at))
 }
 
 // The parts of the row at which a cursor stands.
@@ -62,9 +63,16 @@ pub fn row_here(file: &[u8], c: Cursor) -> Places
     requires go_value { c.go ≡ true }
     ensures { RowPlaces file.now c.header c.row c.at result }
 {
-    let h = c.header;
-    let layout = c.layout;
-    parts_of(file, h, c.row, c.at, layout)
+    let source = Source {
+        file,
+        header: c.header,
+    };
+    let here = Position {
+        source,
+        row: c.row,
+        at: c.at,
+    };
+    parts_of(here, c.layout)
 }
 
 // The cursor at row n, whose chunk begins at a place of the file.
@@ -73,13 +81,13 @@ pub fn cursor_at(file: &[u8], h: Header, n: usize, at: usize) -> Cursor
     requires n_in_bounds { n < length (rows_of file.now) }
     ensures { result ≡ cursor_at file.now n }
 {
-    let layout = known_chunk(file, h, at);
+    let source = Source { file, header: h };
     Cursor {
         go: true,
         number: 0,
         row: n,
         at,
-        layout,
+        layout: source.known_chunk(at),
         header: h,
     }
 }

@@ -11,7 +11,8 @@
 //     headers  the file header: strategy, mark, end, sum; the reading's number where it isn't whole
 //     earlier  serial numbers of earlier rows: looked up, and entered into the index
 //     lookahead  how many rows are there, by a look at the chunks ahead
-//     rows     what stands behind i rows: the chunk, its serial number, the step
+//     source   a file with its whole header, and a position in it: the chunk there, its serial number
+//     rows     what stands at a position: the step
 //     cursor   the cursor over the rows: at the first, at the next
 //     known    where the parts of a row stand; the rows once more, behind a reading
 //     walks    the row of a number, the row of a serial number
@@ -25,14 +26,14 @@ mod headers;
 mod known;
 mod lookahead;
 mod rows;
+mod source;
 mod surveys;
 mod walks;
 
-pub use answers::{Header, Numbered, Survey};
+pub use answers::{Header, Placed, Survey};
 pub use cursor::{ALL, Cursor, behind, first, next, none};
 pub use earlier::{INDEX, empty_index};
 pub use headers::header;
 pub use known::{Places, cursor_at, last, row_at, row_here};
-pub use rows::{chunk_at, serial_at};
 pub use surveys::survey;
 pub use walks::{row_behind, row_of, row_with};

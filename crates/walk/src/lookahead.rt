@@ -9,16 +9,12 @@ ghost use Rattle.metafile.specs.Reading.{rows_of};
 ghost use Rattle.index.specs.Index.{hash_of, size};
 ghost use Rattle.filter.specs.Filter.{covering};
 ghost use Rattle.order.specs.Order.{rising_of, Kept};
-ghost use Rattle.walk.specs.Walk.{header_of, place_after};
 ghost use Rattle.walk.specs.Ahead.{room, Marked, Considered, Looked, Hashed, Before, Known};
 
-use crate::answers::{Ahead, Header};
-use crate::rows::{chunk_at, known_chunk, serial_place};
+use crate::answers::Ahead;
+use crate::source::{Position, Source};
 use metafile::LIMIT;
 use table::places::SERIAL;
-
-// Entries of the filter, from 1 on.
-const FILTER: usize = 196613;
 
 // Places that can be noted at once.
 const ROOM: usize = 40000;
@@ -26,24 +22,20 @@ const ROOM: usize = 40000;
 // Behind every place in a file.
 const NONE: usize = 4294967295;
 
+// A look at the chunks from a position on, up to row `until`, of a file within the limit: every place in it fits a u32.
 #[derive(Clone, Copy)]
-pub struct Chunks {
+struct Scan<'a> {
+    from: Position<'a>,
+    until: usize,
+    ghost small: { length from.source.file.now ≤ 1073741824 },
+}
+
+#[derive(Clone, Copy)]
+struct Chunks {
     // chunks looked at, rows before included
     pub looked: usize,
     // places noted
     pub noted: usize,
-}
-
-// Empties the filter.
-fn clear(words: &mut [u32])
-    requires { length words.old ≡ size }
-    ensures { length words.new ≡ size }
-{
-    let mut i: usize = 1;
-    while i <= FILTER {
-        words[i] = 0;
-        i += 1;
-    }
 }
 
 // Sets the hash of the serial number at a place.
@@ -57,35 +49,35 @@ fn mark(file: &[u8], words: &mut [u32], place: usize)
 }
 
 // The first i rows into the filter.
-fn fill(file: &[u8], h: Header, i: usize, words: &mut [u32])
-    requires h_value { h ≡ header_of file.now }
-    requires number_value { h.number ≡ 0 }
-    requires i_in_bounds { i ≤ length (rows_of file.now) }
+fn fill(source: Source, i: usize, words: &mut [u32])
+    requires i_in_bounds { i ≤ length (rows_of source.file.now) }
     requires words_len { length words.old ≡ size }
-    ensures { Marked file.now i words.new }
+    ensures { Marked source.entry.file.now i words.new }
 {
-    let mut at = h.end;
-    let mut j: usize = 0;
-    while j < i {
-        let l = known_chunk(file, h, at);
-        mark(file, words, serial_place(file, h, at, l));
+    let mut at = source.header.end;
+    for row in 0..i {
+        let l = source.known_chunk(at);
+        mark(source.file, words, source.serial_place(at, l));
         at += l.end;
-        j += 1;
     }
 }
 
 // Notes the place of a serial number where the filter doesn't rule it out, as number m, else sets its hash; answers how many are
 // noted then.
-fn candidate(file: &[u8], words: &mut [u32], places: &mut [u32], m: usize, place: usize) -> usize
+fn candidate(
+    ahead: Scan,
+    words: &mut [u32],
+    places: &mut [u32; ROOM],
+    m: usize,
+    place: usize,
+) -> usize
     requires words_len { length words.old ≡ size }
-    requires places_len { length places.old ≡ room }
     requires m_lt_room { m < room }
-    requires place_in_bounds { place + 38 ≤ length file.now }
-    requires file_len_bound { length file.now ≤ 1073741824 }
-    ensures { Considered file.now place m words.old places.old result words.new places.new }
+    requires place_in_bounds { place + 38 ≤ length ahead.from.source.file.now }
+    ensures { Considered ahead.entry.from.source.file.now place m words.old places.old result words.new places.new }
 {
     let end = place + SERIAL;
-    let hash = index::hash(&file[place..end]);
+    let hash = index::hash(&ahead.from.source.file[place..end]);
     if filter::covered(words, hash) {
         places[m] = place as u32;
         return m + 1;
@@ -94,44 +86,31 @@ fn candidate(file: &[u8], words: &mut [u32], places: &mut [u32], m: usize, place
     m
 }
 
-// The chunks from the place `at` on, behind i rows, up to row `until`, as far as they are whole and there is room to note them.
-fn look(
-    file: &[u8],
-    h: Header,
-    i: usize,
-    at: usize,
-    until: usize,
-    words: &mut [u32],
-    places: &mut [u32],
-) -> Chunks
-    requires h_value { h ≡ header_of file.now }
-    requires number_value { h.number ≡ 0 }
-    requires i_in_bounds { i ≤ length (rows_of file.now) }
-    requires at_value { at ≡ place_after file.now i }
-    requires file_len_bound { length file.now ≤ 1073741824 }
-    requires marked { Marked file.now i words.old }
-    requires places_len { length places.old ≡ room }
-    ensures { Looked file.now result.looked (take result.noted places.new) × (result.noted ≤ room) × (length words.new ≡ size) × (length places.new ≡ room) }
+// The chunks ahead, as far as they are whole and there is room to note them.
+fn look(ahead: Scan, words: &mut [u32], places: &mut [u32; ROOM]) -> Chunks
+    requires { Marked ahead.from.source.file.now ahead.from.row words.old }
+    ensures { Looked ahead.entry.from.source.file.now result.looked (take result.noted places.new) × (result.noted ≤ room) × (length words.new ≡ size) }
 {
-    let mut p = at;
-    let mut j = i;
-    let mut m: usize = 0;
-    while (p < file.len()) & (m < ROOM) & (j <= until) {
-        let l = chunk_at(file, h, p);
-        if l.number != 0 {
-            return Chunks {
-                looked: j,
-                noted: m,
-            };
+    let source = ahead.from.source;
+    let mut chunks = Chunks {
+        looked: ahead.from.row,
+        noted: 0,
+    };
+    let mut at = ahead.from.at;
+    for row in ahead.from.row..=ahead.until {
+        if at == source.file.len() || chunks.noted == ROOM {
+            break;
         }
-        m = candidate(file, words, places, m, serial_place(file, h, p, l));
-        p += l.end;
-        j += 1;
+        let l = source.chunk_at(at);
+        if l.number != 0 {
+            break;
+        }
+        let place = source.serial_place(at, l);
+        chunks.noted = candidate(ahead, words, places, chunks.noted, place);
+        chunks.looked = row + 1;
+        at += l.end;
     }
-    Chunks {
-        looked: j,
-        noted: m,
-    }
+    chunks
 }
 
 // Sets the hashes of the serial numbers at the places noted.
@@ -139,13 +118,11 @@ fn hashed(file: &[u8], words: &mut [u32], noted: &[u32])
     requires { length words.old ≡ size }
     ensures { Hashed file.now noted.now words.new × (length words.new ≡ size) }
 {
-    let mut t: usize = 0;
-    while t < noted.len() {
-        let place = noted[t] as usize;
+    for &place in noted {
+        let place = place as usize;
         if place + SERIAL <= file.len() {
             mark(file, words, place);
         }
-        t += 1;
     }
 }
 
@@ -160,65 +137,46 @@ fn lesser(file: &[u8], words: &[u32], noted: &[u32], place: usize, least: usize)
 {
     let end = place + SERIAL;
     if filter::covered(words, index::hash(&file[place..end])) {
-        let next = order::next_same(file, noted, place);
-        if next < least {
-            return next;
+        if let Some(next) = order::next_same(file, noted, place) {
+            return least.min(next);
         }
     }
     least
 }
 
 // How many of the n chunks looked at are rows: those before the first that has the serial number of a chunk before it.
-fn compare(file: &[u8], h: Header, n: usize, words: &[u32], noted: &[u32]) -> Ahead
-    requires h_value { h ≡ header_of file.now }
-    requires number_value { h.number ≡ 0 }
-    requires file_len_bound { length file.now ≤ 1073741824 }
+fn compare(ahead: Scan, n: usize, words: &[u32], noted: &[u32]) -> Ahead
     requires words_len { length words.now ≡ size }
-    requires looked { Looked file.now n noted.now }
-    requires hashed { Hashed file.now noted.now words.now }
-    requires noted_value { rising_of file.now noted.now ≡ true }
-    ensures { Known file.now result.rows result.last }
+    requires looked { Looked ahead.from.source.file.now n noted.now }
+    requires hashed { Hashed ahead.from.source.file.now noted.now words.now }
+    requires noted_value { rising_of ahead.from.source.file.now noted.now ≡ true }
+    ensures { Known ahead.entry.from.source.file.now result.rows result.last }
 {
-    let mut at = h.end;
-    let mut last: usize = 0;
-    let mut k: usize = 0;
+    let source = ahead.from.source;
+    let mut at = source.header.end;
+    let mut last = 0;
     let mut least = NONE;
-    while k < n {
-        let l = known_chunk(file, h, at);
-        let place = serial_place(file, h, at, l);
+    for k in 0..n {
+        let l = source.known_chunk(at);
+        let place = source.serial_place(at, l);
         if least <= place {
             return Ahead { rows: k, last };
         }
-        least = lesser(file, words, noted, place, least);
+        least = lesser(source.file, words, noted, place, least);
         last = at;
         at += l.end;
-        k += 1;
     }
-    Ahead { rows: k, last }
+    Ahead { rows: n, last }
 }
 
-// What is to be compared: the rows before go into the filter, and the chunks from the place `at` on are looked at.
-fn candidates(
-    file: &[u8],
-    h: Header,
-    i: usize,
-    at: usize,
-    until: usize,
-    words: &mut [u32],
-    places: &mut [u32],
-) -> Chunks
-    requires h_value { h ≡ header_of file.now }
-    requires number_value { h.number ≡ 0 }
-    requires i_in_bounds { i ≤ length (rows_of file.now) }
-    requires at_value { at ≡ place_after file.now i }
-    requires file_len_bound { length file.now ≤ 1073741824 }
-    requires words_len { length words.old ≡ size }
-    requires places_len { length places.old ≡ room }
-    ensures { Looked file.now result.looked (take result.noted places.new) × (result.noted ≤ room) × (length words.new ≡ size) × (length places.new ≡ room) }
+// What is to be compared: the rows before go into the filter, and the chunks ahead are looked at.
+fn candidates(ahead: Scan, words: &mut [u32], places: &mut [u32; ROOM]) -> Chunks
+    requires { length words.old ≡ size }
+    ensures { Looked ahead.entry.from.source.file.now result.looked (take result.noted places.new) × (result.noted ≤ room) × (length words.new ≡ size) }
 {
-    clear(words);
-    fill(file, h, i, words);
-    look(file, h, i, at, until, words, places)
+    words.fill(0);
+    fill(ahead.from.source, ahead.from.row, words);
+    look(ahead, words, places)
 }
 
 // Sorts the places noted by the serial numbers there, whose hashes the filter has then.
@@ -228,7 +186,7 @@ fn arrange(file: &[u8], words: &mut [u32], noted: &mut [u32])
     ensures { Kept noted.old noted.new × Hashed file.now noted.new words.new × (length words.new ≡ size) }
 {
     order::sort(file, noted);
-    clear(words);
+    words.fill(0);
     hashed(file, words, noted);
 }
 
@@ -240,52 +198,28 @@ fn no_rows() -> Ahead
 }
 
 // The rows known to be there, by a look that notes places in an array.
-fn rows_noted(
-    file: &[u8],
-    h: Header,
-    i: usize,
-    at: usize,
-    until: usize,
-    words: &mut [u32],
-    places: &mut [u32],
-) -> Ahead
-    requires h_value { h ≡ header_of file.now }
-    requires number_value { h.number ≡ 0 }
-    requires i_in_bounds { i ≤ length (rows_of file.now) }
-    requires at_value { at ≡ place_after file.now i }
-    requires file_len_bound { length file.now ≤ 1073741824 }
-    requires words_len { length words.old ≡ size }
-    requires places_len { length places.old ≡ room }
-    ensures { Known file.now result.rows result.last × (length words.new ≡ size) }
+fn rows_noted(ahead: Scan, words: &mut [u32], places: &mut [u32; ROOM]) -> Ahead
+    requires { length words.old ≡ size }
+    ensures { Known ahead.entry.from.source.file.now result.rows result.last × (length words.new ≡ size) }
 {
-    let chunks = candidates(file, h, i, at, until, words, places);
-    let m = chunks.noted;
-    arrange(file, words, &mut places[0..m]);
-    if order::rising(file, &places[0..m]) {
-        return compare(file, h, chunks.looked, words, &places[0..m]);
+    let file = ahead.from.source.file;
+    let chunks = candidates(ahead, words, places);
+    let noted = &mut places[..chunks.noted];
+    arrange(file, words, noted);
+    if order::rising(file, noted) {
+        return compare(ahead, chunks.looked, words, noted);
     }
     no_rows()
 }
 
-// The rows known to be there, at a place behind i rows, by a look up to row `until`; none where nothing is known.
-pub fn rows_ahead(
-    file: &[u8],
-    h: Header,
-    i: usize,
-    at: usize,
-    until: usize,
-    words: &mut [u32],
-) -> Ahead
-    requires h_value { h ≡ header_of file.now }
-    requires number_value { h.number ≡ 0 }
-    requires i_in_bounds { i ≤ length (rows_of file.now) }
-    requires at_value { at ≡ place_after file.now i }
+// The rows known to be there, from a position, by a look up to row `until`; none where nothing is known.
+pub fn rows_ahead(from: Position, until: usize, words: &mut [u32]) -> Ahead
     requires words_len { length words.old ≡ size }
-    ensures { Known file.now result.rows result.last × (result.rows ≤ 1073741824) × (result.last ≤ 1073741824) × (length words.new ≡ size) }
+    ensures { Known from.entry.source.file.now result.rows result.last × (result.rows ≤ 1073741824) × (result.last ≤ 1073741824) × (length words.new ≡ size) }
 {
-    if LIMIT < file.len() {
+    if LIMIT < from.source.file.len() {
         return no_rows();
     }
     let mut places = [0u32; ROOM];
-    rows_noted(file, h, i, at, until, words, &mut places)
+    rows_noted(Scan { from, until }, words, &mut places)
 }

@@ -5,21 +5,16 @@ ghost use Rattle.walk.specs.Survey.{noted, survey_of};
 use crate::answers::Survey;
 use crate::cursor::{ALL, first, next};
 use crate::earlier::INDEX;
-use crate::rows::serial_at;
+use crate::source::Source;
 
 // Puts a value wherever row i is named: the values stand in the order of the rows named.
 fn note(values: &mut [usize], rows: &[usize], i: usize, value: usize)
     ensures { values.new ≡ noted i value values.old rows.now }
 {
-    let mut j: usize = 0;
-    while j < values.len() {
-        if j == rows.len() {
-            return;
-        }
+    for j in 0..values.len().min(rows.len()) {
         if rows[j] == i {
             values[j] = value;
         }
-        j += 1;
     }
 }
 
@@ -36,9 +31,11 @@ pub fn survey(file: &[u8], serial: [u8; 38], parents: &[usize]) -> Survey
     while c.go {
         note(&mut places, parents, c.row, c.at);
         note(&mut ends, parents, c.row, c.at + c.layout.end);
-        let h = c.header;
-        let layout = c.layout;
-        known = known | fields::same_serial(serial, serial_at(file, h, c.at, layout));
+        let source = Source {
+            file,
+            header: c.header,
+        };
+        known |= fields::same_serial(serial, source.serial_at(c.at, c.layout));
         c = next(file, c, ALL, &mut index);
     }
     Survey {

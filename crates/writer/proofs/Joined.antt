@@ -2,12 +2,12 @@
 --     stamp-..            a listed word and what stands behind it
 --     lined-up given_is   the values of the description's lines
 --     integrity-.. closing-is   those of the integrity data
---     head-is count-..    the head's, the content length line's
+--     head-is count-put   the head's, the content length line's
 --     Fills chopped-joined   values that fill their widths, one behind the other, are themselves again
 --     fills-formed write-length   values in form fill their lines; what is written of such values has the lines' size
 --     parent-put          a parent's two values
 -- Assumes nothing.
-use Prim.Native.Nat.{ℕ, ◌+◌, ◌-◌, ◌*◌, ◌≤◌}
+use Prim.Native.Nat.{ℕ, ◌+◌, ◌*◌, ◌≤◌}
 use mathlib.Core.Bool.{Bool, true, false, cond, ◌||◌}
 use mathlib.Core.Path.{◌≡◌, refl, sym, ◌∙◌}
 use mathlib.Core.List.{List, [], ◌∷◌, ◌++◌, append_assoc, append-nil}
@@ -139,14 +139,8 @@ head-is d n s given b₁ b₂ b₃ b₄ lg is e₁ e₂ e₃ e₄ =
     ∙ rw (is, joined-both (given_values d) (y ∷ digits_of 4 n ∷ [])) (simp append_assoc)
 
 -- the content length, in twelve digits
-count-put : (n : ℕ) (b : List ℕ) → b ≡ placed 0 (digits_of 12 n) (spaces 12) → b ≡ digits_of 12 n
+pub count-put : (n : ℕ) (b : List ℕ) → b ≡ placed 0 (digits_of 12 n) (spaces 12) → b ≡ digits_of 12 n
 count-put n b q = put_next 0 12 0 [] (digits_of 12 n) (spaces 12) b refl (length-digits_of 12 n) refl q ∙ append-nil (digits_of 12 n)
-
-pub count-open : (f : Bool) (n : ℕ) (b : List ℕ) → f ≡ true → b ≡ placed 0 (digits_of 12 0) (spaces 12) → b ≡ digits_of 12 (cond f 0 n)
-count-open f n b e q = rw e (count-put 0 b q)
-
-pub count-counted : (f : Bool) (n : ℕ) (b : List ℕ) → f ≡ false → b ≡ placed 0 (digits_of 12 n) (spaces 12) → b ≡ digits_of 12 (cond f 0 n)
-count-counted f n b e q = rw e (count-put n b q)
 
 -- ---- taken apart
 

@@ -1,32 +1,36 @@
 -- Rows named as parents, 13: "row not in the reading; parents repeated or over 16".
---     in-..       one among those behind a place
+--     named_again   one among those behind it
 --     many few    over 16 or not
 --     not_there twice wrong-next wrong-end   the rows named, one after the other
 -- Assumes nothing.
-use Prim.Native.Nat.{ℕ, suc, ◌+◌, ◌≤◌, ◌<◌}
+use Prim.Native.Nat.{ℕ, suc, ◌+◌, ◌-◌, ◌≤◌, ◌<◌}
 use mathlib.Core.Bool.{Bool, true, false, not, ◌||◌}
 use mathlib.Core.Path.{◌≡◌, refl, sym, ◌∙◌}
-use mathlib.Core.List.{List, ◌∷◌}
+use mathlib.Core.List.{List, [], ◌∷◌}
 use native.Mathlib.Numerals.{add-one}
-use lib.ListN.{length, drop, get_or, drop_of_length-le}
-use lib.Seq.{drop-cons}
-use borrow.Author.Tests.{lt-ltb, le-ltb, eq-eqb, ne_eqb}
+use native.Mathlib.Omega.{arith}
+use lib.Dec.{eqb}
+use lib.ListN.{length, take, drop, get_or, length-drop, drop_of_length-le}
+use lib.Seq.{take_all, drop-cons}
+use borrow.Author.Tests.{lt-ltb, le-ltb, eq-eqb, ne_eqb, eqb-true, eqb-false}
+use Rattle.std.specs.List.{list_any}
 use Rattle.metafile.specs.Append.{all_below, is_in, repeated}
-use Rattle.laws.proofs.First.{or_right, or-none}
+use Rattle.laws.proofs.First.{test, or_right, or-none}
 use Rattle.writer.specs.Parents.{parents_refused}
 
-module _ (k : ℕ) (ks : List ℕ) (from i : ℕ) (e : is_in k (drop from ks) ≡ is_in k (drop i ks)) where
-  pub in-stop : i < length ks → k ≡ get_or ks i 0 → true ≡ is_in k (drop from ks)
-  unfolding is_in
-  in-stop h q = sym (e ∙ rw (drop-cons ks i 0 h, eq-eqb k (get_or ks i 0) q))
+eqb-comm : (a b : ℕ) → eqb a b ≡ eqb b a
+eqb-comm a b = test (eqb a b) (λ e. e ∙ sym (eq-eqb b a (sym (eqb-true a b e)))) (λ e. e ∙ sym (ne_eqb b a (λ q. eqb-false a b e (sym q))))
 
-  pub in-next : i < length ks → (k ≡ get_or ks i 0 → ⊥) → is_in k (drop from ks) ≡ is_in k (drop (i + 1) ks)
-  unfolding is_in
-  in-next h q = e ∙ rw (add-one, drop-cons ks i 0 h, ne_eqb k (get_or ks i 0) q)
+-- among the others, as the library looks for it
+in-others : (k : ℕ) (ks : List ℕ) → list_any (λ y. eqb y k) ks ≡ is_in k ks
+unfolding is_in
+in-others k [] = refl
+in-others k (x ∷ ks) = rw (eqb-comm x k, in-others k ks)
 
-  pub in_end : length ks ≤ i → false ≡ is_in k (drop from ks)
-  unfolding is_in
-  in_end h = sym (e ∙ rw (drop_of_length-le ks h))
+pub named_again : (ks : List ℕ) (i : ℕ) (k : ℕ) (r : Bool) → r ≡ list_any (λ y. eqb y k) (take (length ks - (i + 1)) (drop (i + 1) ks)) → is_in k (drop (i + 1) ks) ≡ r
+named_again ks i k r e =
+    let whole = take_all (length ks - (i + 1)) (drop (i + 1) ks) (simp length-drop (omega arith)) in
+    sym (e ∙ rw whole (in-others k (drop (i + 1) ks)))
 
 -- a row that is not in the reading, or named twice
 abbrev pub some_wrong : ℕ → List ℕ → Bool

@@ -21,12 +21,12 @@ fn put_parent(buffer: &mut [u8], at: usize, serial: [u8; 38], name: usize) -> us
     requires { (at + 344 ≤ size buffer.old) × (name + 256 ≤ size buffer.old) }
     ensures { (result ≡ at + 344) × (buffer.new ≡ placed at (write (dependency_fields 1) (serial ∷ part name 256 buffer.old ∷ [])) buffer.old) }
 {
-    let end = name + NAME;
-    let values = parent_values(serial, &buffer[name..end]);
+    let values = parent_values(serial, &buffer[name..name + NAME]);
     lines::put_lines(buffer, at, numbers::DEPENDENCY_SERIAL, 2, &values)
 }
 
 // The lines of the rows named, by where their chunks begin and end.
+// arrays: places and ends are those of walk::Survey, as the definition survey_of has them
 pub fn put_parents(
     buffer: &mut [u8],
     length: usize,
@@ -41,13 +41,11 @@ pub fn put_parents(
     ensures { (result ≡ at + 344 * size parents.now) × (buffer.new ≡ placed at (write (dependency_fields (size parents.now)) (parent_values (take length buffer.old) (rows_of (take length buffer.old)) parents.now)) buffer.old) }
 {
     let mut p = at;
-    let mut i: usize = 0;
-    while i < parents.len() {
+    for i in 0..parents.len() {
         let from = ends[i] - (mark + SERIAL_BACK);
         let serial = fields::serial_from(&buffer[from..]);
         let name = places[i] + SUB_FORMAT;
         p = put_parent(buffer, p, serial, name);
-        i += 1;
     }
     p
 }

@@ -8,23 +8,16 @@ use table::places::MARK;
 pub fn is_clear(mark: &[u8]) -> bool
     ensures { result ≡ all non_zero mark.now }
 {
-    let mut i: usize = 0;
-    while i < mark.len() {
-        if mark[i] == 0 {
-            return false;
-        }
-        i += 1;
-    }
-    true
+    mark.iter().all(|b| *b != 0)
 }
 
 // The file's mark, copied out of it.
+// arrays: no heap, so an array of the most bytes that a mark may have; its n bytes are copied, since the buffer is written to
 pub fn mark_of(file: &[u8], n: usize) -> [u8; 999]
     requires { (n ≤ 999) × (65 + n ≤ length file.now) }
     ensures { take n result ≡ part 65 n file.now }
 {
-    let end = MARK + n;
     let mut mark = [0u8; 999];
-    lines::put_bytes(&mut mark, 0, &file[MARK..end]);
+    mark[..n].copy_from_slice(&file[MARK..MARK + n]);
     mark
 }

@@ -90,23 +90,13 @@ pub fn given_values(d: Description) -> [u8; 360]
     requires { d.subformat.given ≤ 256 }
     ensures { result ≡ joined (given_values d) }
 {
-    let text = d.subformat;
-    let name = text.bytes;
-    let long = text.given;
-    let generic = d.generic;
-    let synch = d.synch;
-    let offset = d.offset;
-    let standard = d.standard;
-    let alternate = d.alternate;
-    let event = d.event;
-    let linked = d.linked;
     lined_up(
-        &name[..long],
-        generic,
-        synch,
-        standard_stamp(standard, alternate),
-        offset,
-        event_stamp(event, linked),
+        &d.subformat.bytes[..d.subformat.given],
+        d.generic,
+        d.synch,
+        standard_stamp(d.standard, d.alternate),
+        d.offset,
+        event_stamp(d.event, d.linked),
     )
 }
 
@@ -135,21 +125,12 @@ pub fn closing_values(d: Description) -> [u8; 118]
     requires { (d.recorder.given ≤ 32) × (d.writer.given ≤ 32) }
     ensures { result ≡ joined (integrity_values (integrity_given d)) }
 {
-    let recorder = d.recorder;
-    let recorder_bytes = recorder.bytes;
-    let recorder_long = recorder.given;
-    let writer = d.writer;
-    let writer_bytes = writer.bytes;
-    let writer_long = writer.given;
-    let serial = d.serial;
-    let recorded = d.recorded;
-    let written = d.written;
     integrity_values(
-        serial,
-        recorded,
-        &recorder_bytes[..recorder_long],
-        written,
-        &writer_bytes[..writer_long],
+        d.serial,
+        d.recorded,
+        &d.recorder.bytes[..d.recorder.given],
+        d.written,
+        &d.writer.bytes[..d.writer.given],
     )
 }
 
@@ -183,12 +164,9 @@ pub fn count_value(open: bool, long: usize) -> [u8; 12]
     requires { long ≤ 1073741824 }
     ensures { result ≡ digits_of 12 (cond «open» 0 (long + 1)) }
 {
+    let count = if open { 0 } else { long + 1 };
     let mut values = [32u8; 12];
-    if open {
-        lines::put_number(&mut values, 0, places::LENGTH, 0);
-    } else {
-        lines::put_number(&mut values, 0, places::LENGTH, (long + 1) as u64);
-    }
+    lines::put_number(&mut values, 0, places::LENGTH, count as u64);
     values
 }
 

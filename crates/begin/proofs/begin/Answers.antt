@@ -1,31 +1,23 @@
 -- `begin::begin` meets its contract. Assumes nothing.
-use mathlib.Core.Path.{◌≡◌, sym, ◌∙◌}
-use Rattle.metafile.specs.Answers.{begin_answer, first_refusal}
+use mathlib.Core.Path.{sym}
+use Rattle.std.proofs.lemmas.Result.{err_from_is_err_and}
+use Rattle.metafile.specs.Answers.{count_answer}
 use Rattle.metafile.specs.Begin.{begin_tests, begin}
 use Rattle.begin.specs.Given.{given_of}
-use Rattle.laws.proofs.Outcomes.{outcome-refused}
+use Rattle.writer.proofs.Refused.{outcome-err}
 use Rattle.begin.proofs.Tests.{accepted, outcome-written}
 use Rattle.begin.proofs.begin.Goals as goal
-use Rattle.begin.proofs.begin.Goals.{Else-number-ne0}
 
-not-refused : (c : Else-number-ne0) → first_refusal (begin_tests (given_of c.args.strategy c.args.mark.now c.args.serial c.args.recorded c.args.recorder.now c.args.written c.args.writer.now) c.args.buffer.now) ≡ 0
-not-refused c = sym c.refusal-number.ensures ∙ c.if-number-ne0.false
-
-pub returns-then-number-ne0 : goal.returns-then-number-ne0
-unfolding begin_answer begin
-returns-then-number-ne0 c =
-    let s = c in
-    outcome-refused (begin_tests (given_of s.args.strategy s.args.mark.now s.args.serial s.args.recorded s.args.recorder.now s.args.written s.args.writer.now) s.args.buffer.now) s.args.buffer.now _ c.refusal-number.result c.refusal-number.ensures c.if-number-ne0.true
+pub returns-in_err-refusal : goal.returns-in_err-refusal
+unfolding count_answer begin
+returns-in_err-refusal c =
+    let p = err_from_is_err_and c.from_residual.result c.from_residual.ensures.1 in
+    rw (p.1, p.2) (outcome-err (begin_tests (given_of c.args.strategy c.args.mark.now c.args.serial c.args.recorded c.args.recorder.now c.args.written c.args.writer.now) c.args.buffer.now) c.args.buffer.now _ _ c.in_err-refusal.ensures)
 
 pub put_header-requires : goal.put_header-requires
-put_header-requires c =
-    let s = c in
-    accepted (given_of s.args.strategy s.args.mark.now s.args.serial s.args.recorded s.args.recorder.now s.args.written s.args.writer.now) s.args.buffer.now (not-refused (goal.at.put_header-requires c).Else-number-ne0)
+put_header-requires c = accepted (given_of c.args.strategy c.args.mark.now c.args.serial c.args.recorded c.args.recorder.now c.args.written c.args.writer.now) c.args.buffer.now (sym c.in_ok-refusal.ensures)
 
 pub returns : goal.returns
-unfolding begin_answer
 returns c =
-    let put = c in
-    let s = put in
-    outcome-written (given_of s.args.strategy s.args.mark.now s.args.serial s.args.recorded s.args.recorder.now s.args.written s.args.writer.now) s.args.buffer.now put.put_header.result put.put_header.new.buffer
-    (not-refused (goal.at.returns c).Else-number-ne0) put.put_header.ensures.0 put.put_header.ensures.1
+    outcome-written (given_of c.args.strategy c.args.mark.now c.args.serial c.args.recorded c.args.recorder.now c.args.written c.args.writer.now) c.args.buffer.now c.put_header.result c.put_header.new.buffer
+    (sym c.in_ok-refusal.ensures) c.put_header.ensures.0 c.put_header.ensures.1

@@ -21,19 +21,19 @@ block_count-count-requires c = limit-small _ _ (within c)
 long : (c : After-block_count-count) → c.block_count-count.result * 512 ≡ length (packed c.args.file.now)
 long c = omega (arith, c.block_count-count.ensures.0, packed-long c.args.file.now)
 
-pub returns-then-buffer-length : goal.returns-then-buffer-length
-returns-then-buffer-length c =
+pub returns-then-buffer-packed : goal.returns-then-buffer-packed
+returns-then-buffer-packed c =
     let b = c in
-    pack-18 _ _ (within (goal.at.returns-then-buffer-length c).Else-over_limit) (omega (arith, long (goal.at.returns-then-buffer-length c).After-block_count-count, c.if-buffer-length.true))
+    pack-18 _ _ (within (goal.at.returns-then-buffer-packed c).Else-over_limit) (omega (arith, long (goal.at.returns-then-buffer-packed c).After-block_count-count, c.if-buffer-packed.true))
 
 pub put_blocks-requires : goal.put_blocks-requires
 put_blocks-requires c =
     let e = c in
-    let b = e in record { file_len_bound = limit-small _ _ (within (goal.at.put_blocks-requires c).Else-over_limit); count_value = b.block_count-count.ensures.0; count_in_bounds = e.if-buffer-length.false }
+    let b = e in record { file_len_bound = limit-small _ _ (within (goal.at.put_blocks-requires c).Else-over_limit); count_value = b.block_count-count.ensures.0; count_in_bounds = e.if-buffer-packed.false }
 
 pub returns : goal.returns
 returns c =
     let p = c in
     let e = p in
     let b = e in
-    pack-done _ _ (within (goal.at.returns c).Else-over_limit) (long (goal.at.returns c).After-block_count-count) e.if-buffer-length.false p.put_blocks.ensures
+    pack-done _ _ (within (goal.at.returns c).Else-over_limit) (long (goal.at.returns c).After-block_count-count) e.if-buffer-packed.false p.put_blocks.ensures

@@ -4,6 +4,4 @@ use Rattle.directory.proofs.Laws.{same-part}
 use Rattle.directory.proofs.same_at.Goals as goal
 
 pub returns : goal.returns
-returns c =
-    let args = c.args in
-    c.same_bytes.ensures ∙ same-part args.file.now args.serial.now args.key
+returns c = c.same_bytes.ensures ∙ same-part c.args.file.now c.args.serial.now c.args.key

@@ -1,6 +1,6 @@
 -- The measure of `standing` is twice the number of unvisited rows, and that of `listed` is one more: `standing` visits a row
 -- before it asks `listed`, and `listed` asks `standing` with no more unvisited rows than it was given. Assumes nothing.
-use Rattle.std.proofs.Common.{◌+◌, ◌-◌, ◌*◌}
+use Rattle.std.proofs.Common.{◌+◌, ◌*◌}
 use Rattle.graph.specs.Graph.{unvisited, ListDone}
 use Rattle.graph.proofs.+listed_standing.Given as goal
 
@@ -12,6 +12,3 @@ decreases-standing l = 2 * unvisited l.marks.now
 
 abbrev pub invariant-listed-loop-b : goal.invariant-listed-loop-b
 invariant-listed-loop-b l = ListDone l.table l.n l.row l.b l.initial.marks l.marks
-
-abbrev pub decreases-listed-loop-b : goal.decreases-listed-loop-b
-decreases-listed-loop-b l = l.n - l.b

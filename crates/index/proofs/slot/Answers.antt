@@ -1,9 +1,9 @@
 -- `index::slot` meets its contract. Assumes nothing.
 use Prim.Native.Nat.{◌%◌}
+use mathlib.Core.Path.{refl}
 use native.Mathlib.Omega.{arith}
 use Rattle.index.specs.Index.{slot_of}
 use Rattle.index.proofs.Loops.{square-small}
-use borrow.Author.Rules.{rules}
 use Rattle.index.proofs.slot.Goals as goal
 
 pub overflow_mul-result : goal.overflow_mul-result
@@ -11,4 +11,4 @@ overflow_mul-result c = omega (arith, square-small (c.args.hash % 2147483647) (o
 
 pub returns : goal.returns
 unfolding slot_of
-returns c = search rules
+returns c = (refl, omega arith)

@@ -4,6 +4,4 @@ use Rattle.index.proofs.Loops.{word-is}
 use Rattle.index.proofs.word.Goals as goal
 
 pub returns : goal.returns
-returns c =
-    let k = c in
-    (c.half_word.ensures.0 ∙ word-is k.args.s.now k.args.at, c.half_word.ensures.1)
+returns c = (c.half_word.ensures.0 ∙ word-is c.args.s.now c.args.at, c.half_word.ensures.1)

@@ -1,4 +1,7 @@
 -- `listing_text::put_listing` meets its contract. Assumes nothing.
+use Rattle.std.proofs.Common.{◌≡◌}
+use Rattle.metafile.specs.Listing.{end_line, listed, listing}
+use Rattle.read.specs.Table.{table_reading}
 use Rattle.text.proofs.Puts.{put_is}
 use Rattle.read.proofs.Enough.{count-few, count-inside}
 use Rattle.listing_text.proofs.Texts.{listing-short, listing-long}
@@ -6,20 +9,20 @@ use Rattle.listing_text.proofs.put_listing.Goals as goal
 
 pub returns-then-input-gt-MOST : goal.returns-then-input-gt-MOST
 returns-then-input-gt-MOST c =
-    let put = c in
-    let test = put in
-    put_is (listing-long test.args.input.now test.if-input-gt-MOST.true) put.put_end.ensures
+    let e : end_line 0 c.number.result ≡ listing c.args.input.now =
+    rw c.number.ensures (listing-long c.args.input.now c.if-input-gt-MOST.true) in
+    put_is e c.put_end.ensures
 
 pub put_listed-requires : goal.put_listed-requires
-put_listed-requires c =
-    let read = c in
-    let test = read in
-    let start = test in
-    (count-few start.args.input.now _ read.read_table-table.result.answer test.if-input-gt-MOST.false read.read_table-table.ensures, count-inside start.args.input.now _ read.read_table-table.result.answer test.if-input-gt-MOST.false read.read_table-table.ensures, start.requires)
+put_listed-requires c = (
+  count-few c.args.input.now _ c.read_table-table.result.answer c.if-input-gt-MOST.false c.read_table-table.ensures,
+  count-inside c.args.input.now _ c.read_table-table.result.answer c.if-input-gt-MOST.false c.read_table-table.ensures,
+  c.requires,
+)
 
 pub returns : goal.returns
 returns c =
-    let put = c in
-    let read = put in
-    let test = read in
-    put_is (listing-short test.args.input.now _ read.read_table-table.result.answer test.if-input-gt-MOST.false read.read_table-table.ensures) put.put_listed.ensures
+    let t = c.read_table-table.result in
+    let e : listed c.is_empty.result (table_reading t.rows t.answer) ≡ listing c.args.input.now =
+    rw c.is_empty.ensures (listing-short c.args.input.now _ t.answer c.if-input-gt-MOST.false c.read_table-table.ensures) in
+    put_is e c.put_listed.ensures

@@ -1,85 +1,69 @@
 -- `multi::multi_part` meets its contract. Assumes nothing.
+use mathlib.Core.Path.{refl, sym}
 use native.Mathlib.Omega.{arith}
-use Rattle.laws.proofs.Stages.{none}
+use lib.ListN.{length-take}
+use Rattle.std.proofs.lemmas.Result.{err_from_is_err_and}
 use Rattle.multi.proofs.TypeStages.{head-fits}
 use Rattle.multi.proofs.Contents.{head-most, multi-head, multi-types, place_inside, texts-kept, multi-first, multi-minis}
 use Rattle.multi.proofs.multi_part.Goals as goal
 
-pub returns-then-head-ne0 : goal.returns-then-head-ne0
-returns-then-head-ne0 c =
-    let a = c.args in
-    multi-head a.r.now _ c.head_fault-head.ensures c.if-head-ne0.true
+pub returns-in_err-head_fault : goal.returns-in_err-head_fault
+returns-in_err-head_fault c =
+    let p = err_from_is_err_and c.from_residual.result c.from_residual.ensures.1 in
+    rw (p.1, p.2) (multi-head c.args.r.now _ c.in_err-head_fault.ensures)
 
 pub type_count-n-requires : goal.type_count-n-requires
-type_count-n-requires c =
-    let a = c.args in
-    omega (arith, head-fits a.r.now (none c.head_fault-head.ensures c.if-head-ne0.false))
+type_count-n-requires c = omega (arith, head-fits c.args.r.now (sym c.in_ok-head_fault.ensures))
 
-pub types_part-part-requires : goal.types_part-part-requires
-types_part-part-requires c =
-    let a = c.args in
-    let most = head-most a.r.now
-    (none c.head_fault-head.ensures c.if-head-ne0.false) in (
-      head-fits a.r.now (none c.head_fault-head.ensures c.if-head-ne0.false),
-      omega (arith, c.type_count-n.ensures),
+pub types_part-requires-clause-r_in_bounds : goal.types_part-requires-clause-r_in_bounds
+types_part-requires-clause-r_in_bounds c = head-fits c.args.r.now (sym c.in_ok-head_fault.ensures)
+
+pub types_part-requires-clause-ids_len : goal.types_part-requires-clause-ids_len
+types_part-requires-clause-ids_len c =
+    omega (arith, head-most c.args.r.now (sym c.in_ok-head_fault.ensures), c.type_count-n.ensures)
+
+pub returns-in_err-at : goal.returns-in_err-at
+returns-in_err-at c =
+    let p = err_from_is_err_and c.from_residual-in_err-at.result c.from_residual-in_err-at.ensures.1 in
+    rw (p.1, p.2) (multi-types c.args.r.now (sym c.in_ok-head_fault.ensures) _ c.in_err-at.ensures.value)
+
+pub first_fault-requires : goal.first_fault-requires
+first_fault-requires c = place_inside c.args.r.now (sym c.in_ok-head_fault.ensures) _ c.in_ok-at.ensures.value
+
+pub returns-in_err-first_fault : goal.returns-in_err-first_fault
+returns-in_err-first_fault c =
+    let p = err_from_is_err_and c.from_residual-in_err-first_fault.result c.from_residual-in_err-first_fault.ensures.1 in
+    rw (p.1, p.2) (multi-first c.args.r.now (sym c.in_ok-head_fault.ensures) _ c.in_ok-at.ensures.value _ c.in_err-first_fault.ensures)
+
+pub slice_bounds-ids-end : goal.slice_bounds-ids-end
+slice_bounds-ids-end c =
+    omega (
+      arith,
+      head-most c.args.r.now (sym c.in_ok-head_fault.ensures),
+      c.type_count-n.ensures,
+      c.types_part.auto.ids,
     )
 
-pub returns-then-part-ne0 : goal.returns-then-part-ne0
-returns-then-part-ne0 c =
-    let a = c.args in
-    multi-types a.r.now
-    (none c.head_fault-head.ensures
-    c.if-head-ne0.false) _
-    (rw c.type_count-n.ensures at
-    c.types_part-part.ensures.value) c.if-part-ne0.true
+pub slice_bounds-minis_part-end : goal.slice_bounds-minis_part-end
+slice_bounds-minis_part-end c =
+    omega (
+      arith,
+      head-most c.args.r.now (sym c.in_ok-head_fault.ensures),
+      c.type_count-n.ensures,
+      c.types_part.auto.ids,
+      length-take c.type_count-n.result c.types_part.new.ids,
+    )
 
-pub first_fault-first-requires : goal.first_fault-first-requires
-first_fault-first-requires c =
-    let a = c.args in
-    place_inside a.r.now
-    (none c.head_fault-head.ensures
-    c.if-head-ne0.false) _
-    (rw c.type_count-n.ensures at
-    c.types_part-part.ensures.value) c.if-part-ne0.false
+pub minis_part-requires-clause-start_in_bounds : goal.minis_part-requires-clause-start_in_bounds
+minis_part-requires-clause-start_in_bounds c =
+    place_inside c.args.r.now (sym c.in_ok-head_fault.ensures) _ c.in_ok-at.ensures.value
 
-pub returns-then-first-ne0 : goal.returns-then-first-ne0
-returns-then-first-ne0 c =
-    let a = c.args in
-    multi-first a.r.now
-    (none c.head_fault-head.ensures
-    c.if-head-ne0.false) _
-    (rw c.type_count-n.ensures at
-    c.types_part-part.ensures.value) c.if-part-ne0.false
-    _ c.first_fault-first.ensures c.if-first-ne0.true
-
-pub minis_part-requires : goal.minis_part-requires
-minis_part-requires c =
-    let a = c.args
-    in
-    let head = none
-    c.head_fault-head.ensures
-    c.if-head-ne0.false in
-    let most = head-most a.r.now head in
-    let count = c.type_count-n.ensures in
-    let types = c.types_part-part in
-    let part = rw count at types.ensures.value in
-    let passed = c.if-part-ne0.false in
-    let kept = types.auto.ids in record { start_in_bounds = (place_inside a.r.now head _ part passed, omega (arith, count)); text_ids = texts-kept a.r.now head _ part passed _ _ count (types.ensures.ids_after passed) }
+pub minis_part-requires-clause-text_ids : goal.minis_part-requires-clause-text_ids
+minis_part-requires-clause-text_ids c =
+    texts-kept c.args.r.now (sym c.in_ok-head_fault.ensures) _ c.in_ok-at.ensures.value
+    _ (c.in_ok-at.ensures.ids_after refl)
 
 pub returns : goal.returns
 returns c =
-    let a =
-    c.args
-    in
-    let count = c.type_count-n.ensures in
-    let ids = c.types_part-part.ensures.ids_after
-    c.if-part-ne0.false in
-    multi-minis a.r.now
-    (none
-    c.head_fault-head.ensures
-    c.if-head-ne0.false) _
-    (rw c.type_count-n.ensures at
-    c.types_part-part.ensures.value)
-    c.if-part-ne0.false
-    _ _ _ c.first_fault-first.ensures c.if-first-ne0.false (rw count at ids)
-    (rw count at c.minis_part.ensures)
+    multi-minis c.args.r.now (sym c.in_ok-head_fault.ensures) _ c.in_ok-at.ensures.value
+    _ _ c.in_ok-first_fault.ensures (c.in_ok-at.ensures.ids_after refl) c.minis_part.ensures

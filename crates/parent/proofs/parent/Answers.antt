@@ -1,40 +1,39 @@
 -- `parent::parent` meets its contract. Assumes nothing.
-use Prim.Native.Nat.{◌+◌, ◌*◌, ◌≤◌, ◌<◌}
-use mathlib.Core.Path.{◌≡◌, ap, ◌∙◌}
-use borrow.Author.Tests.{not-true, not-false}
+use Prim.Native.Nat.{◌+◌, ◌*◌, ◌≤◌}
+use mathlib.Core.Path.{ap, ◌∙◌}
 use native.Mathlib.Omega.{arith}
 use lib.ListN.{length}
+use Rattle.std.proofs.lemmas.Result.{err_from_is_err_and}
 use Rattle.metafile.specs.Bytes.{part}
 use Rattle.walk.specs.Walk.{numbered_of}
 use Rattle.walk.proofs.Index.{indexed-none}
-use Rattle.walk.proofs.Named.{Named, named, named-at, earlier-place}
+use Rattle.walk.proofs.Named.{Named, named-goes, named-at, refused-later, earlier-place}
 use Rattle.parent.proofs.Answers.{refused-row, refused-14, dependency-inside, Met, met, missing, answered}
 use Rattle.parent.proofs.parent.Goals as goal
-use Rattle.parent.proofs.parent.Goals.{After-row_with-found, Else-not-found, Else-own-dependency, Else-own-ne0}
+use Rattle.parent.proofs.parent.Goals.{Else-own-dependency, In-Some, In_ok-own}
 
-pub row_of-middle-requires : goal.row_of-middle-requires
-row_of-middle-requires c = indexed-none _ 0
+pub row_of-requires : goal.row_of-requires
+row_of-requires c = indexed-none _ 0
 
-pub returns-then-own-ne0 : goal.returns-then-own-ne0
-returns-then-own-ne0 c =
-    let r = c in
-    refused-row _ _ _ r.row_behind-own.result r.row_behind-own.ensures.0 c.if-own-ne0.true
+pub returns-in_err-middle : goal.returns-in_err-middle
+returns-in_err-middle c =
+    let p = err_from_is_err_and c.from_residual.result c.from_residual.ensures.1 in
+    rw (p.1, p.2) (refused-row _ _ _ _ (refused-later _ _ _ c.sought_from-from.ensures _ c.in_err-middle.ensures.named))
 
-own : (c : Else-own-ne0) → Named c.args.file.now c.args.row c.row_behind-own.result
-own c = named _ _ c.row_behind-own.result c.row_behind-own.ensures.0 c.if-own-ne0.false
+pub returns-in_err-own : goal.returns-in_err-own
+returns-in_err-own c =
+    let p = err_from_is_err_and c.from_residual-in_err-own.result c.from_residual-in_err-own.ensures.1 in
+    rw (p.1, p.2) (refused-row _ _ _ _ c.in_err-own.ensures.named)
+
+own : (c : In_ok-own) → Named c.args.file.now c.args.row c.in_ok-own.own
+own c = named-goes _ _ c.in_ok-own.ensures.named c.in_ok-own.ensures.goes
 
 pub returns-then-own-dependency : goal.returns-then-own-dependency
-returns-then-own-dependency c =
-    let e = c in
-    refused-14 _ _ e.args.dependency e.row_behind-own.result (own (goal.at.returns-then-own-dependency c).Else-own-ne0) (omega (arith, c.if-own-dependency.true))
+returns-then-own-dependency c = refused-14 _ _ c.args.dependency c.in_ok-own.own (own (goal.at.returns-then-own-dependency c).In_ok-own) c.if-own-dependency.true
 
-has : (c : Else-own-dependency) → c.args.dependency < c.row_behind-own.result.layout.dependencies
-has c = omega (arith, c.if-own-dependency.false)
-
-inside : (c : Else-own-dependency) → (c.row_behind-own.result.at + 568 + 344 * c.args.dependency) + 344 ≤ length c.args.file.now
+inside : (c : Else-own-dependency) → (c.in_ok-own.own.at + 568 + 344 * c.args.dependency) + 344 ≤ length c.args.file.now
 inside c =
-    let own : Named c.args.file.now c.args.row c.row_behind-own.result = named _ _ c.row_behind-own.result c.row_behind-own.ensures.0 c.if-own-ne0.false in
-    dependency-inside _ _ _ _ own (has c)
+    dependency-inside _ _ _ c.in_ok-own.own (named-goes c.args.file.now c.args.row c.in_ok-own.ensures.named c.in_ok-own.ensures.goes) c.if-own-dependency.false
 
 pub overflow_add-at : goal.overflow_add-at
 overflow_add-at c = omega (arith, inside (goal.at.overflow_add-at c).Else-own-dependency, c.well_formed)
@@ -51,43 +50,39 @@ overflow_add-at-3 c = omega (arith, inside (goal.at.overflow_add-at-3 c).Else-ow
 pub serial_at-serial-requires : goal.serial_at-serial-requires
 serial_at-serial-requires c = omega (arith, inside (goal.at.serial_at-serial-requires c).Else-own-dependency)
 
-pub row_with-found-requires : goal.row_with-found-requires
-row_with-found-requires c =
-    let e = c in
-    let w = own (goal.at.row_with-found-requires c).Else-own-ne0 in
-    let row = e.args.row in
-    let from = e.sought_from-from in
-    let less = from.ensures in
-    let place = earlier-place e.args.file.now from.result row less e.row_of-middle.result e.row_of-middle.ensures.0 w in record { at = named-at w e.row_behind-own.ensures.1; go_value = w.goes; m_le_row = omega (arith, w.row_is, less); place_value = place }
+pub row_with-requires : goal.row_with-requires
+row_with-requires c =
+    let w = own (goal.at.row_with-requires c).In_ok-own in
+    let less = c.sought_from-from.ensures in
+    record {
+      at = named-at w c.in_ok-own.ensures.indexed;
+      go_value = w.goes;
+      m_le_row = omega (arith, w.row_is, less);
+      place_value = earlier-place c.args.file.now c.sought_from-from.result c.args.row less c.in_ok-middle.middle c.in_ok-middle.ensures.named w;
+    }
 
-other-is : (c : After-row_with-found) → c.row_with-found.result ≡ numbered_of c.args.file.now (part ((c.row_behind-own.result.at + 568 + 344 * c.args.dependency) + 25) 38 c.args.file.now)
-other-is c = c.row_with-found.ensures ∙ ap (numbered_of c.args.file.now) c.serial_at-serial.ensures
+pub returns-in-None : goal.returns-in-None
+returns-in-None c =
+    let at = goal.at.returns-in-None c in
+    missing _ _ _ _ (own at.In_ok-own) c.if-own-dependency.false (c.in-None.ensures ∙ ap (numbered_of c.args.file.now) c.serial_at-serial.ensures)
 
-pub returns-then-not-found : goal.returns-then-not-found
-returns-then-not-found c =
-    let r = c in
-    let e = r in
-    missing _ _ _ _ (own (goal.at.returns-then-not-found c).Else-own-ne0) (has (goal.at.returns-then-not-found c).Else-own-dependency) r.row_with-found.result (other-is (goal.at.returns-then-not-found c).After-row_with-found) (not-true _ c.if-not-found.true)
-
-found : (c : Else-not-found) → Met c.args.file.now (part ((c.row_behind-own.result.at + 568 + 344 * c.args.dependency) + 25) 38 c.args.file.now) c.row_with-found.result
-found c =
-    let other-is : c.row_with-found.result ≡ numbered_of c.args.file.now (part ((c.row_behind-own.result.at + 568 + 344 * c.args.dependency) + 25) 38 c.args.file.now) = c.row_with-found.ensures ∙ ap (numbered_of c.args.file.now) c.serial_at-serial.ensures in
-    met _ _ c.row_with-found.result other-is (not-false _ c.if-not-found.false)
+found : (c : In-Some) → Met c.args.file.now (part ((c.in_ok-own.own.at + 568 + 344 * c.args.dependency) + 25) 38 c.args.file.now) c.in-Some.found
+found c = met _ _ c.in-Some.found (c.in-Some.ensures ∙ ap (numbered_of c.args.file.now) c.serial_at-serial.ensures)
 
 pub overflow_add-subformat : goal.overflow_add-subformat
 overflow_add-subformat c =
-    let w = found (goal.at.overflow_add-subformat c).Else-not-found in
-    omega (arith, w.lies.dependencies-inside, w.place-is, c.well_formed)
+    let w = found (goal.at.overflow_add-subformat c).In-Some in omega (arith, w.lies.dependencies-inside, w.place-is, c.well_formed)
 
-pub overflow_add-at-4 : goal.overflow_add-at-4
-overflow_add-at-4 c = let e = c in omega (arith, inside (goal.at.overflow_add-at-4 c).Else-own-dependency, e.well_formed)
+pub overflow_add-at-in-Some : goal.overflow_add-at-in-Some
+overflow_add-at-in-Some c = omega (arith, inside (goal.at.overflow_add-at-in-Some c).Else-own-dependency, c.well_formed)
 
 pub agree-requires : goal.agree-requires
 agree-requires c =
-    let w = found (goal.at.agree-requires c).Else-not-found in record { a_in_bounds = omega (arith, inside (goal.at.agree-requires c).Else-own-dependency); b_in_bounds = omega (arith, w.lies.dependencies-inside, w.place-is) }
+    let at = goal.at.agree-requires c in
+    let w = found at.In-Some in
+    record { a_in_bounds = omega (arith, inside at.Else-own-dependency); b_in_bounds = omega (arith, w.lies.dependencies-inside, w.place-is) }
 
-pub returns : goal.returns
-returns c =
-    let f = c in
-    let e = f in
-    answered _ _ _ _ (own (goal.at.returns c).Else-own-ne0) (has (goal.at.returns c).Else-own-dependency) f.row_with-found.result (other-is (goal.at.returns c).After-row_with-found) (found (goal.at.returns c).Else-not-found) _ c.agree.ensures
+pub returns-in-Some : goal.returns-in-Some
+returns-in-Some c =
+    let at = goal.at.returns-in-Some c in
+    answered _ _ _ _ (own at.In_ok-own) c.if-own-dependency.false c.in-Some.found (found at.In-Some) _ c.agree.ensures

@@ -1,46 +1,41 @@
 -- `read::read` meets its contract. Assumes nothing.
-use Rattle.std.proofs.Common.{◌≡◌, ℕ, length, sym, arith}
+use Rattle.std.proofs.Common.{◌≡◌, [], ◌∷◌, false, length, arith}
+use Rattle.metafile.specs.Answers.{over_limit}
+use Rattle.laws.proofs.Accepted.{limit-over, limit-under}
 use Rattle.walk.proofs.Index.{indexed-none}
-use Rattle.read.proofs.Turns.{Facts, Turn, begins, goes, stops, turns-fall}
+use Rattle.walk.proofs.Cursors.{there}
+use Rattle.read.proofs.Turns.{begins, turn, over, full, stops}
 use Rattle.read.proofs.read.Goals as goal
-use Rattle.read.proofs.read.Goals.{In-loop-s}
+use Rattle.read.proofs.read.Goals.{After-first-c}
 
-turn : (c : In-loop-s) → Turn c.args.file.now c.args.rows.now c.loop-s.s c.loop-s.rows c.loop-s.index c.loop-s.invariant.0
-turn c = goes c.args.file.now c.args.rows.now c.loop-s.s c.loop-s.rows c.loop-s.index _ c.loop-s.invariant.1 c.loop-s-test.true
+under : (c : After-first-c) → over_limit (length c.args.file.now ∷ []) ≡ false
+under c = limit-under (length c.args.file.now) c.if-file-gt-LIMIT.false
 
-pub first-s-requires : goal.first-s-requires
-first-s-requires c = rw c.empty_index-index.ensures (indexed-none c.args.file.now 0)
+pub returns-then-file-gt-LIMIT : goal.returns-then-file-gt-LIMIT
+returns-then-file-gt-LIMIT c = over c.args.file.now c.args.rows.now (limit-over (length c.args.file.now) [] c.if-file-gt-LIMIT.true)
 
-pub loop-s-init : goal.loop-s-init
-loop-s-init c =
-    (length c.args.rows.now, rw c.first-s.ensures.0 (begins c.args.file.now c.args.rows.now c.first-s.new.index c.first-s.ensures.1))
+pub first-c-requires : goal.first-c-requires
+first-c-requires c = rw c.empty_index-index.ensures (indexed-none c.args.file.now 0)
 
-pub offset_bounds-rows-s : goal.offset_bounds-rows-s
-offset_bounds-rows-s c = omega (arith, c.well_formed, (turn (goal.at.offset_bounds-rows-s c).In-loop-s).within, c.loop-s.auto.rows)
+pub loop-c-init : goal.loop-c-init
+loop-c-init c = begins c.args.file.now c.args.rows.now c.first-c.ensures
 
-pub bounds-rows-s : goal.bounds-rows-s
-bounds-rows-s c = (turn (goal.at.bounds-rows-s c).In-loop-s).within
+pub returns-then-room-c : goal.returns-then-room-c
+returns-then-room-c c =
+    rw c.ended.ensures (full _ _ c.loop-c.invariant c.loop-c-test.true (omega (arith, c.if-room-c.true, c.loop-c.invariant.len)) (under (goal.at.returns-then-room-c c).After-first-c))
 
-pub next-s-requires : goal.next-s-requires
-next-s-requires c =
-    let t = turn (goal.at.next-s-requires c).In-loop-s in
-    record { s_value = (t.is, c.loop-s-test.true); indexed = t.indexed }
+pub row-requires : goal.row-requires
+row-requires c = record { c_value = c.loop-c.invariant.at.is; go_value = c.loop-c-test.true }
 
-pub loop-s-smaller : goal.loop-s-smaller
-loop-s-smaller c =
-    let t = turn (goal.at.loop-s-smaller c).In-loop-s in
-    turns-fall c.args.file.now c.args.rows.now c.loop-s.s c.next-s.result c.loop-s.rows _ c.loop-s.index c.next-s.new.index _ t.left
-    c.loop-s.invariant.1
-    c.loop-s-test.true
-    (rw c.next-s.ensures.0 (t.facts c.next-s.new.index c.next-s.ensures.1))
-    t.less
+pub next-c-requires : goal.next-c-requires
+next-c-requires c = record { at = c.loop-c.invariant.at; go_value = c.loop-c-test.true }
 
-pub loop-s-preserved : goal.loop-s-preserved
-loop-s-preserved c =
-    let t = turn (goal.at.loop-s-preserved c).In-loop-s in
-    (t.left, rw c.next-s.ensures.0 (t.facts c.next-s.new.index c.next-s.ensures.1))
+pub loop-c-smaller : goal.loop-c-smaller
+loop-c-smaller c = omega (arith, (there c.loop-c.invariant.at c.loop-c-test.true).turn.row, c.next-c.ensures.1)
+
+pub loop-c-preserved : goal.loop-c-preserved
+loop-c-preserved c =
+    turn _ _ c.loop-c.invariant c.loop-c-test.true (omega (arith, c.if-room-c.false, c.loop-c.invariant.len)) _ c.row.ensures c.next-c.ensures
 
 pub returns : goal.returns
-returns c =
-    rw c.last.ensures
-    (stops c.args.file.now c.args.rows.now c.loop-s.s c.loop-s.rows c.loop-s.index _ c.loop-s.invariant.1 c.loop-s-test.false)
+returns c = rw c.ended-2.ensures (stops _ _ c.loop-c.invariant c.loop-c-test.false (under (goal.at.returns c).After-first-c))

@@ -1,10 +1,11 @@
--- What holds of the state, the table and the index where the loop's test is reached is in proofs/Turns. Assumes nothing.
-use Rattle.std.proofs.Common.{ℕ, ◌≡◌, length}
-use Rattle.read.proofs.Turns.{Facts, turns_left}
+-- What holds of the cursor, the table and the index where the loop's test is reached is in proofs/Turns. Assumes nothing.
+use Rattle.std.proofs.Common.{◌-◌, length}
+use Rattle.metafile.specs.Reading.{rows_of}
+use Rattle.read.proofs.Turns.{Facts}
 use Rattle.read.proofs.read.Given as goal
 
-abbrev pub invariant-loop-s : goal.invariant-loop-s
-invariant-loop-s l = (m : ℕ) × Facts l.file l.initial.rows l.s l.rows l.index m
+abbrev pub invariant-loop-c : goal.invariant-loop-c
+invariant-loop-c l = Facts l.file l.initial.rows l.c l.rows l.index
 
-abbrev pub decreases-loop-s : goal.decreases-loop-s
-decreases-loop-s l = turns_left (length l.rows) l.s
+abbrev pub decreases-loop-c : goal.decreases-loop-c
+decreases-loop-c l = length (rows_of l.file) - l.c.row

@@ -1,73 +1,38 @@
 -- `relations_check::check_latest` meets its contract. Assumes nothing.
-use mathlib.Core.Path.{◌≡◌, refl, sym, ap, ◌∙◌}
-use native.Mathlib.Omega.{arith}
-use Prim.Native.Nat.{◌≤◌}
+use mathlib.Core.Path.{◌≡◌, refl, sym, ◌∙◌}
+use mathlib.Core.List.{[]}
 use lib.ListN.{length}
-use borrow.Author.Tests.{not-true, not-false}
-use Rattle.metafile.specs.declared.RelationsCheckAnswer.{RelationsCheckAnswer}
-use Rattle.metafile.specs.Answers.{outcome, relations_check_answer, relations_latest_answer}
-use Rattle.metafile.specs.Relations.{relations_check, with_row, relations_check_latest}
+use Rattle.std.proofs.lemmas.Result.{err_from_is_err_and}
+use Rattle.metafile.specs.Reading.{rows_of}
+use Rattle.laws.proofs.Accepted.{limit-small}
 use Rattle.walk.proofs.Index.{indexed-none}
-use Rattle.relations_check.proofs.Choosing.{row_named, latest-by, latest-11, latest-13}
+use Rattle.relations_check.specs.Latest.{Holds}
+use Rattle.relations_check.proofs.Choosing.{row_named, some-holds, none-held, row-holds, latest-refused, latest-checked, latest-11, latest-13}
 use Rattle.relations_check.proofs.Judgings.{check-is}
 use Rattle.relations_check.proofs.check_latest.Goals as goal
-use Rattle.relations_check.proofs.check_latest.Goals.{After-check_text-answer, After-choose-choice}
 
-pub returns-then-file-gt-LIMIT : goal.returns-then-file-gt-LIMIT
-returns-then-file-gt-LIMIT c = latest-11 _ _ c.if-file-gt-LIMIT.true
+pub returns-then-over_limit : goal.returns-then-over_limit
+returns-then-over_limit c = latest-11 _ _ (sym c.over_limit.ensures ∙ c.if-over_limit.true)
 
 pub first-first-requires : goal.first-first-requires
 first-first-requires c = indexed-none _ 0
 
-pub choose-choice-requires : goal.choose-choice-requires
-choose-choice-requires c =
-    let f = c in
-    let e = f in record { at = f.first-first.ensures.0; row_value = f.first-first.ensures.1; file_len_bound = omega (arith, e.if-file-gt-LIMIT.false) }
+pub choose-latest-requires-clause-file_len_bound : goal.choose-latest-requires-clause-file_len_bound
+choose-latest-requires-clause-file_len_bound c = limit-small _ [] (sym c.over_limit.ensures ∙ c.if-over_limit.false)
 
-small : (h : After-choose-choice) → length h.args.file.now ≤ 1073741824
-small h = omega (arith, h.if-file-gt-LIMIT.false)
+pub returns-in_default : goal.returns-in_default
+returns-in_default c =
+    latest-13 _ _ (sym c.over_limit.ensures ∙ c.if-over_limit.false)
+    (none-held c.args.file.now _ _ c.in_default.is c.choose-latest.ensures.0.holding)
 
-pub returns-then-not-own : goal.returns-then-not-own
-returns-then-not-own c =
-    let h = c in
-    latest-13 _ _ (small (goal.at.returns-then-not-own c).After-choose-choice) (h.choose-choice.ensures.0.none (not-true _ c.if-not-own.true))
+pub returns-in_err-count : goal.returns-in_err-count
+returns-in_err-count c =
+    let p = err_from_is_err_and c.from_residual.result c.from_residual.ensures.1 in
+    let w : Holds c.args.file.now (length (rows_of c.args.file.now)) c.in-Some.latest = some-holds _ _ _ _ c.in-Some.is c.choose-latest.ensures.0.holding in
+    rw (p.1, p.2)
+    (latest-refused _ _ _ _ (row-holds _ _ w) _ (c.in_err-count.ensures ∙ check-is _ _ _ _ (row_named w.at_row) _ refl w.relations _ c.contents.ensures))
 
-pub contents-requires : goal.contents-requires
-contents-requires c =
-    let e = c in
-    e.choose-choice.ensures.0.at_row (not-false _ e.if-not-own.false)
-
-pub check_text-answer-requires : goal.check_text-answer-requires
-check_text-answer-requires c =
-    let h = c in record { ended = h.choose-choice.ensures.0.ended; file_len_bound = small (goal.at.check_text-answer-requires c).After-choose-choice; d_len = h.choose-choice.ensures.1 }
-
--- the row that holds, checked
-checked : (t : After-check_text-answer)
-    → let e = t in
-    let h = e in
-    outcome (relations_check_answer t.check_text-answer.result) t.check_text-answer.new.verdicts
-    ≡ relations_check h.args.file.now h.choose-choice.result.own.row h.args.verdicts.now
-checked t =
-    let e = t in
-    let w = e.choose-choice.ensures.0 in
-    let g = not-false _ e.if-not-own.false in
-    t.check_text-answer.ensures ∙ check-is _ _ _ _ (row_named (w.at_row g)) _ refl (w.relations g) _ t.contents.ensures
-
--- with the row
-answered : (t : After-check_text-answer) (a : RelationsCheckAnswer) → t.check_text-answer.result ≡ a
-    → let h = t in
-    outcome (with_row h.choose-choice.result.own.row (relations_check_answer a)) t.check_text-answer.new.verdicts
-    ≡ relations_check_latest h.args.file.now h.args.verdicts.now
-answered t a is =
-    let e = t in
-    let w = e.choose-choice.ensures.0 in
-    latest-by _ _ _ (w.row_is (not-false _ e.if-not-own.false)) _ _
-    (ap (λ x. outcome (relations_check_answer x) t.check_text-answer.new.verdicts) (sym is) ∙ checked t)
-
-pub returns-in-Checked : goal.returns-in-Checked
-unfolding relations_check_answer relations_latest_answer with_row
-returns-in-Checked c = answered (goal.at.returns-in-Checked c).After-check_text-answer _ c.in-Checked.is
-
-pub returns-in-Refused : goal.returns-in-Refused
-unfolding relations_check_answer relations_latest_answer with_row
-returns-in-Refused c = answered (goal.at.returns-in-Refused c).After-check_text-answer _ c.in-Refused.is
+pub returns : goal.returns
+returns c =
+    let w : Holds c.args.file.now (length (rows_of c.args.file.now)) c.in-Some.latest = some-holds _ _ _ _ c.in-Some.is c.choose-latest.ensures.0.holding in
+    latest-checked _ _ _ _ (row-holds _ _ w) _ (c.in_ok-count.ensures ∙ check-is _ _ _ _ (row_named w.at_row) _ refl w.relations _ c.contents.ensures)

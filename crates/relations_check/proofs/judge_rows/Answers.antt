@@ -13,8 +13,8 @@ loop-k-init c =
 pub clear-requires : goal.clear-requires
 clear-requires c = c.loop-k.invariant.2
 
-pub fill-w-requires : goal.fill-w-requires
-fill-w-requires c =
+pub fill-window-requires : goal.fill-window-requires
+fill-window-requires c =
     let e = c in
     let t = e in
     let k = t in record { rows_value = k.requires.ended.count; behind = t.loop-k.invariant.1 (omega (arith, t.loop-k-test.true)); from_lt_rows = t.loop-k-test.true; file_len_bound = k.requires.file_len_bound; empty = e.clear.ensures }
@@ -23,21 +23,21 @@ pub judge-requires : goal.judge-requires
 judge-requires c =
     let f = c in
     let t = f in
-    let w = f.fill-w.ensures in record { window_of = w.window; judging = rw w.from_is t.loop-k.invariant.4 }
+    let w = f.fill-window.ensures in rw w.from_is t.loop-k.invariant.4
 
 pub overflow_add-k : goal.overflow_add-k
 overflow_add-k c =
     let k = c in
-    omega (arith, c.fill-w.ensures.window.rows, file-few k.args.file.now, k.requires.file_len_bound)
+    omega (arith, c.fill-window.ensures.window.rows, file-few k.args.file.now, k.requires.file_len_bound)
 
 pub loop-k-smaller : goal.loop-k-smaller
-loop-k-smaller c = let w = c.fill-w.ensures in omega (arith, w.some, w.from_is, c.loop-k-test.true)
+loop-k-smaller c = let w = c.fill-window.ensures in omega (arith, w.some, w.from_is, c.loop-k-test.true)
 
 pub loop-k-preserved : goal.loop-k-preserved
 loop-k-preserved c =
     let l = c in
     let k = l in
-    let w = c.fill-w.ensures in
+    let w = c.fill-window.ensures in
     let e = c.judge.ensures in (
       omega (arith, w.window.rows, k.requires.ended.count),
       (λ some. w.behind),

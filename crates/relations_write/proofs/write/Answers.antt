@@ -29,13 +29,10 @@ last-end-requires c = c.first-first.ensures.0
 pub clear-requires : goal.clear-requires
 clear-requires c = c.last-end.ensures.1
 
-pub enter_rows-t-requires : goal.enter_rows-t-requires
-enter_rows-t-requires c =
+pub enter_rows-found-requires : goal.enter_rows-found-requires
+enter_rows-found-requires c =
     let l = c in
-    let w = l.last-end.ensures.0 in record { rows_value = w.count; behind = w.begun; file_len_bound = limit-small _ _ (within (goal.at.enter_rows-t-requires c).Else-over_limit); empty = c.clear.ensures }
-
-pub count-lines-requires : goal.count-lines-requires
-count-lines-requires c = c.enter_rows-t.ensures
+    let w = l.last-end.ensures.0 in record { rows_value = w.count; behind = w.begun; file_len_bound = limit-small _ _ (within (goal.at.enter_rows-found-requires c).Else-over_limit); empty = c.clear.ensures }
 
 -- the text's length
 long : (c : After-count-lines)
@@ -57,7 +54,7 @@ put_rows-requires c =
     let e = h in
     let n = e in
     let room : 131 + 605 * n.count-lines.result ≤ length n.args.buffer.now = e.if-buffer-long.false in
-    let same = headed-length _ n.args.buffer.now (omega arith) h.put_heading-p.ensures.1 in record { found_in = n.enter_rows-t.ensures; file_in_bounds = omega (arith, same, long (goal.at.put_rows-requires c).After-count-lines, h.put_heading-p.ensures.0) }
+    let same = headed-length _ n.args.buffer.now (omega arith) h.put_heading-p.ensures.1 in omega (arith, same, long (goal.at.put_rows-requires c).After-count-lines, h.put_heading-p.ensures.0)
 
 pub returns : goal.returns
 returns c =

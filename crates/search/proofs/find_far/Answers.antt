@@ -1,30 +1,16 @@
--- `search::find_far` meets its contract. The loop's invariant: the byte does not occur before `i`. The measure is what is
--- left. Assumes nothing.
-use mathlib.Core.List.{[], ◌∷◌}
-use mathlib.Core.Path.{sym, ◌∙◌}
-use native.Mathlib.Omega.{arith}
-use Rattle.search.proofs.Laws.{passed_none, passed-stretch, passed-rest, part-within}
+-- `search::find_far` meets its contract. Assumes nothing.
+use Rattle.std.proofs.Common.{◌≡◌, ◌∙◌, sym, refl, ◌+◌, ◌*◌, [], ◌∷◌, arith}
+use Rattle.laws.proofs.Lists.{find-fits}
+use Rattle.search.proofs.Laws.{in-any, passed-stretch, passed-rest}
 use Rattle.search.proofs.find_far.Goals as goal
-
-pub loop-i-init : goal.loop-i-init
-loop-i-init c = (omega arith, passed_none (c.args.b ∷ []) c.args.s.now)
 
 pub loop-i-preserved : goal.loop-i-preserved
 loop-i-preserved c =
-    let at = c in
-    let args = at.args in (
-      omega arith,
-      passed-stretch args.b args.s.now at.loop-i.i 64 (omega arith) (sym c.has_byte.ensures ∙ c.if-has_byte.false) at.loop-i.invariant.1,
-    )
-
-pub overflow_add-result : goal.overflow_add-result
-overflow_add-result c =
-    let at = c in
-    let args = at.args in
-    omega (arith, part-within (args.b ∷ []) args.s.now at.loop-i.i c.find_single.result at.loop-i.invariant.0 c.find_single.ensures)
+    let end : 64 * (c.loop-i.i + 1) ≡ c.loop-i.at + 64 = omega arith in
+    (refl, rw end (passed-stretch c.args.b c.args.s.now c.loop-i.at 64 (omega arith) (sym (in-any _ _) ∙ sym c.contains.ensures.value ∙ c.if-contains.false) c.loop-i.invariant.1))
 
 pub returns : goal.returns
-returns c =
-    let at = c in
-    let args = at.args in
-    passed-rest (args.b ∷ []) args.s.now at.loop-i.i c.find_single.result at.loop-i.invariant.1 c.find_single.ensures
+returns c = passed-rest (c.args.b ∷ []) c.args.s.now c.loop-i.at c.find_single.result c.loop-i.invariant.1 c.find_single.ensures
+
+pub overflow_add-result : goal.overflow_add-result
+overflow_add-result c = omega (arith, returns c, find-fits (c.args.b ∷ []) c.args.s.now)

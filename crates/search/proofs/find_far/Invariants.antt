@@ -1,13 +1,8 @@
--- `search::find_far` meets its contract. The loop's invariant: the byte does not occur before `i`. The measure is what is
--- left. Assumes nothing.
-use Prim.Native.Nat.{◌-◌, ◌≤◌}
-use mathlib.Core.List.{[], ◌∷◌}
-use lib.ListN.{length}
+-- `search::find_far` meets its contract. The loop's invariant: the byte does not occur in the stretches before `at`. Assumes
+-- nothing.
+use Rattle.std.proofs.Common.{◌≡◌, [], ◌∷◌, ◌*◌}
 use Rattle.search.proofs.Laws.{Passed}
 use Rattle.search.proofs.find_far.Given as goal
 
 abbrev pub invariant-loop-i : goal.invariant-loop-i
-invariant-loop-i l = (l.i ≤ length l.s) × Passed (l.b ∷ []) l.s l.i
-
-abbrev pub decreases-loop-i : goal.decreases-loop-i
-decreases-loop-i l = length l.s - l.i
+invariant-loop-i l = (l.at ≡ 64 * l.i) × Passed (l.b ∷ []) l.s l.at

@@ -1,5 +1,5 @@
 -- `search::find_mark` meets its contract: a place inside the text, else what is found from its last bytes on. Assumes nothing.
-use Prim.Native.Nat.{ℕ, ◌+◌, ◌-◌, ◌≤◌, ◌<◌, min}
+use Prim.Native.Nat.{ℕ, ◌+◌, ◌-◌, ◌≤◌, ◌<◌}
 use mathlib.Core.Path.{◌≡◌}
 use mathlib.Core.List.{◌++◌}
 use native.Mathlib.Omega.{arith}
@@ -22,22 +22,18 @@ overflow_sub-m c =
     let args = c.args in
     omega (arith, (has-shifts (length args.mark.now) c.if-m.false).0)
 
-pub overflow_sub-from : goal.overflow_sub-from
-overflow_sub-from c = omega (arith, c.lesser.ensures)
-
 -- how far the last bytes reach, over numbers
-room : (m n k : ℕ) → 1 ≤ m → k ≡ min n (m - 1) → (d : ℕ) → d < n - k → d + m ≤ n
-room m n k l e d h = omega arith
+room : (m n r : ℕ) → 1 ≤ m → r ≡ n - (m - 1) → (d : ℕ) → d < r → d + m ≤ n
+room m n r l e d h = omega arith
 
 pub returns : goal.returns
 returns c =
-    let cut = c in
-    let searched = cut in
+    let searched = c in
     let args = searched.args in
     let n = length args.text.now in
-    rest-behind args.mark.now args.text.now args.tail.now (n - cut.lesser.result) searched.sought-found.result.place c.find_plain-2.result
+    rest-behind args.mark.now args.text.now args.tail.now c.saturating_sub-from.result searched.sought-found.result.place c.find_plain-2.result
     searched.sought-found.ensures.0 (omega arith) (omega arith)
-    (room (length args.mark.now) n cut.lesser.result (has-shifts _ searched.if-m.false).0 cut.lesser.ensures)
+    (room (length args.mark.now) n c.saturating_sub-from.result (has-shifts _ searched.if-m.false).0 c.saturating_sub-from.ensures)
     c.find_plain-2.ensures
 
 pub overflow_add-result : goal.overflow_add-result

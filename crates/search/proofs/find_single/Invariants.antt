@@ -1,13 +1,7 @@
--- `search::find_single` meets its contract. The loop's invariant: the byte does not occur before `i`. The measure is what
--- is left of the length. Assumes nothing.
-use Prim.Native.Nat.{◌-◌, ◌≤◌}
-use mathlib.Core.List.{[], ◌∷◌}
-use lib.ListN.{length}
+-- `search::find_single` meets its contract. The loop's invariant: the byte does not occur before `i`. Assumes nothing.
+use Rattle.std.proofs.Common.{[], ◌∷◌}
 use Rattle.search.proofs.Laws.{Passed}
 use Rattle.search.proofs.find_single.Given as goal
 
 abbrev pub invariant-loop-i : goal.invariant-loop-i
-invariant-loop-i l = (l.i ≤ length l.s) × Passed (l.b ∷ []) l.s l.i
-
-abbrev pub decreases-loop-i : goal.decreases-loop-i
-decreases-loop-i l = length l.s - l.i
+invariant-loop-i l = Passed (l.b ∷ []) l.s l.i

@@ -1,60 +1,30 @@
--- `table::put_label` meets its contract. The loop's invariant: the first bytes of the label are put. The measure: what
--- is left of the label. Assumes nothing.
-use mathlib.Core.Path.{refl, sym}
+-- `table::put_label` meets its contract. Assumes nothing.
+use Prim.Native.Nat.{◌+◌, ◌≤◌}
 use native.Mathlib.Omega.{arith}
-use lib.ListN.{length-set}
-use Rattle.laws.proofs.Loops.{placed-nothing}
-use Rattle.table.proofs.Labels.{label_inside, put-fits, put_next, put-end, put-place}
+use lib.ListN.{length, length-take, length-drop}
+use Rattle.std.proofs.Common.{rules}
+use Rattle.table.proofs.Labels.{label-room, label-taken, put-fits, put-place, label-put}
 use Rattle.table.proofs.put_label.Goals as goal
 
-pub loop-k-init : goal.loop-k-init
-loop-k-init c = (omega arith, refl, sym (placed-nothing _ _))
+pub slice_bounds-copy_from_slice-end : goal.slice_bounds-copy_from_slice-end
+slice_bounds-copy_from_slice-end c =
+    let fits : c.args.at + c.line_at-line.result.long ≤ length c.args.buffer.now = put-fits c.args.i (omega arith) c.line_at-line.result c.line_at-line.ensures c.args.buffer.now c.args.at (omega arith) in
+    search rules
 
-pub bounds-label-k : goal.bounds-label-k
-bounds-label-k c =
-    let start = c in
-    let line = c.line_at-line in
-    omega (arith, label_inside start.args.i (omega arith) line.result line.ensures)
+pub slice_bounds-label-end : goal.slice_bounds-label-end
+slice_bounds-label-end c = label-room c.args.i (omega arith) c.line_at-line.result c.line_at-line.ensures
 
-pub overflow_add-buffer : goal.overflow_add-buffer
-overflow_add-buffer c =
-    let start = c in
-    let line = c.line_at-line in
-    omega (arith, put-fits start.args.i (omega arith) line.result line.ensures start.args.buffer.now start.args.at (omega arith))
+pub slice_bounds-copy_from_slice-end-2 : goal.slice_bounds-copy_from_slice-end-2
+slice_bounds-copy_from_slice-end-2 c = label-taken c.args.i (omega arith) c.line_at-line.result c.line_at-line.ensures
 
-pub bounds-buffer-at : goal.bounds-buffer-at
-bounds-buffer-at c =
-    let start = c in
-    let line = c.line_at-line in
-    omega (arith, put-fits start.args.i (omega arith) line.result line.ensures start.args.buffer.now start.args.at (omega arith))
-
-pub overflow_add-k : goal.overflow_add-k
-overflow_add-k c = omega arith
-
-pub loop-k-smaller : goal.loop-k-smaller
-loop-k-smaller c = omega arith
-
-pub loop-k-preserved : goal.loop-k-preserved
-loop-k-preserved c =
-    let at = c.args in
-    let line = c.line_at-line in
-    let head = c.loop-k in
-    let next = put_next at.i (omega arith) line.result line.ensures at.buffer.now at.at (omega arith) head.buffer head.k (omega arith) head.invariant.2 in
-    (omega arith, simp length-set head.invariant.1, next)
-
-pub overflow_add-result : goal.overflow_add-result
-overflow_add-result c =
-    let start = c in
-    let line = c.line_at-line in
-    omega (arith, put-fits start.args.i (omega arith) line.result line.ensures start.args.buffer.now start.args.at (omega arith))
-
-pub shape_of-buffer : goal.shape_of-buffer
-shape_of-buffer c = c.loop-k.invariant.1
+pub copy_from_slice-requires : goal.copy_from_slice-requires
+copy_from_slice-requires c =
+    let fits : c.args.at + c.line_at-line.result.long ≤ length c.args.buffer.now = put-fits c.args.i (omega arith) c.line_at-line.result c.line_at-line.ensures c.args.buffer.now c.args.at (omega arith) in
+    simp (length-take, length-drop) (omega (arith, label-room c.args.i (omega arith) c.line_at-line.result c.line_at-line.ensures))
 
 pub returns : goal.returns
 returns c =
-    let at = c.args in
-    let line = c.line_at-line in
-    let head = c.loop-k in
-    let place = put-place at.i (omega arith) line.result line.ensures at.buffer.now at.at (omega arith) in
-    (place, put-end at.i (omega arith) line.result line.ensures at.buffer.now at.at (omega arith) head.buffer head.k (omega arith) head.invariant.2)
+    let line = c.line_at-line in (
+      put-place c.args.i (omega arith) line.result line.ensures c.args.buffer.now c.args.at (omega arith),
+      label-put c.args.i (omega arith) line.result line.ensures c.args.buffer.now c.args.at (omega arith) _ c.copy_from_slice.ensures.after,
+    )

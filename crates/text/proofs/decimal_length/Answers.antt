@@ -7,14 +7,8 @@ use Rattle.laws.proofs.Digits.{length-digits_of}
 use Rattle.text.proofs.Decimals.{decimal-small, decimal-more, decimal-few}
 use Rattle.text.proofs.decimal_length.Goals as goal
 
-pub loop-rest-init : goal.loop-rest-init
-loop-rest-init c = omega arith
-
 pub overflow_add-n : goal.overflow_add-n
 overflow_add-n c = omega (arith, decimal-few c.args.x)
-
-pub loop-rest-smaller : goal.loop-rest-smaller
-loop-rest-smaller c = omega arith
 
 pub loop-rest-preserved : goal.loop-rest-preserved
 loop-rest-preserved c =

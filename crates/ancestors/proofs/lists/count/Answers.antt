@@ -1,35 +1,16 @@
 -- `ancestors::lists::count` meets its contract. Assumes nothing.
-use Prim.Native.Nat.{◌-◌}
-use mathlib.Core.Path.{sym, ◌∙◌}
-use native.Mathlib.Omega.{arith}
-use Rattle.ancestors.proofs.Marked.{counting-none, counting-in, counting-out, counted}
+use Rattle.std.proofs.Common.{◌∙◌, length, refl, arith, rules, tests}
+use Rattle.std.proofs.lemmas.Iterator.{YieldsList-from_range}
+use Rattle.std.proofs.lemmas.Iterator.Consumers.{YieldsList-from_filter, count_from_yields_List}
+use Rattle.std.proofs.lemmas.List.Sums.{length-filter}
+use Rattle.std.specs.List.{range_with_len}
+use Rattle.ancestors.specs.Lists.{is_listed}
+use Rattle.ancestors.proofs.Marked.{listed-count}
 use Rattle.ancestors.proofs.lists.count.Goals as goal
-use Rattle.ancestors.proofs.lists.count.Goals.{then-is_listed, else-is_listed}
-
-pub loop-i-init : goal.loop-i-init
-loop-i-init c = counting-none _ _ _
-
-pub is_listed-requires : goal.is_listed-requires
-is_listed-requires c = omega arith
-
-pub overflow_add-count : goal.overflow_add-count
-overflow_add-count c = omega arith
-
-pub overflow_add-i : goal.overflow_add-i
-overflow_add-i c = omega arith
-
-pub loop-i-smaller : goal.loop-i-smaller
-loop-i-smaller c = omega arith
-
-pub loop-i-preserved : goal.loop-i-preserved
-loop-i-preserved c =
-    let t = c in
-    let w = t.loop-i.invariant in
-    let is = c.is_listed.ensures in
-    elim c.if-is_listed.branch [
-      | then-is_listed v ↦ rw v.count-is (counting-in _ _ w t.loop-i-test.true (sym is ∙ v.if-is_listed.true))
-      | else-is_listed v ↦ rw v.count-is (counting-out _ _ w t.loop-i-test.true (sym is ∙ v.if-is_listed.false))
-    ]
 
 pub returns : goal.returns
-returns c = counted _ _ c.loop-i.invariant c.loop-i-test.false
+returns c =
+    let m = c.args.marks.now in
+    count_from_yields_List c.filter.result c.count.result c.count.ensures.ran
+    (YieldsList-from_filter _ (is_listed m c.args.row) {f = c.filter.result.p} (YieldsList-from_range 0 (length m) (length m) (cc) (omega arith)) refl (λ x b q k. search (rules, tests)))
+    ∙ length-filter (is_listed m c.args.row) (range_with_len 0 (length m)) ∙ listed-count m c.args.row (length m)

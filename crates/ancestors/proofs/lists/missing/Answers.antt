@@ -1,45 +1,42 @@
 -- `ancestors::lists::missing` meets its contract. Assumes nothing.
-use Prim.Native.Nat.{◌-◌}
-use native.Mathlib.Omega.{arith}
-use borrow.Author.Tests.{eq-eqb, ne_eqb}
-use Rattle.ancestors.specs.Lists.{is_marked}
-use Rattle.ancestors.proofs.Marked.{adding-none, adding-in, adding-out, added}
+use Rattle.std.proofs.Common.{◌≡◌, ◌+◌, cond, refl, ap, ◌∙◌, arith, length}
+use Rattle.std.proofs.lemmas.List.{length_push}
+use Rattle.std.proofs.lemmas.Slice.Zip.{zip_turn, zip_end}
+use Rattle.metafile.specs.Below.{sum_below}
+use Rattle.ancestors.specs.Lists.{marked_sum}
+use Rattle.ancestors.proofs.Marked.{marked-next, marked-most}
 use Rattle.ancestors.proofs.lists.missing.Goals as goal
-use Rattle.ancestors.proofs.lists.missing.Goals.{then-marks-i-eq-DONE, else-marks-i-eq-DONE}
+use Rattle.ancestors.proofs.lists.missing.Goals.{After-eq}
 
-pub loop-i-init : goal.loop-i-init
-loop-i-init c = adding-none _ _ _
+pub loop-mark-init : goal.loop-mark-init
+unfolding marked_sum sum_below
+loop-mark-init c = refl
 
-pub bounds-marks-i : goal.bounds-marks-i
-bounds-marks-i c = omega arith
-
-pub offset_bounds-counts-i : goal.offset_bounds-counts-i
-offset_bounds-counts-i c = omega arith
-
-pub bounds-counts-i : goal.bounds-counts-i
-bounds-counts-i c = omega arith
+-- a mark and its row
+next : (c : After-eq) → marked_sum c.args.marks.now c.args.rows.now (length c.loop-mark.yielded + 1)
+    ≡ marked_sum c.args.marks.now c.args.rows.now (length c.loop-mark.yielded) + cond c.eq.result c.in-Some.row.now.missing 0
+next c =
+    let t = zip_turn c.args.marks.now c.args.rows.now c.loop-mark.yielded c.into_iter-mark-iterator.result c.loop-mark.mark-iterator c.next.new.self c.next.result (cc) (cc) c.loop-mark.yielded_by _ c.in-Some.is c.next.ensures.steps in
+    marked-next c.args.marks.now c.args.rows.now (length c.loop-mark.yielded) c.eq.result c.in-Some.mark.now c.in-Some.row.now c.eq.ensures (t.2 _) (t.3 _)
 
 pub overflow_add-sum : goal.overflow_add-sum
 overflow_add-sum c =
-    let t = c in
-    let s = t.requires.small in
-    omega (arith, t.loop-i.invariant.most, s.few, s.small _ t.loop-i-test.true)
+    let t = zip_turn c.args.marks.now c.args.rows.now c.loop-mark.yielded c.into_iter-mark-iterator.result c.loop-mark.mark-iterator c.next.new.self c.next.result (cc) (cc) c.loop-mark.yielded_by _ c.in-Some.is c.next.ensures.steps in
+    let most = marked-most c.args.marks.now c.args.rows.now c.requires.small (length c.loop-mark.yielded + 1) (omega arith) in
+    omega (arith, c.loop-mark.invariant, rw c.if-eq.true at (next (goal.at.overflow_add-sum c).After-eq), most)
 
-pub overflow_add-i : goal.overflow_add-i
-overflow_add-i c = omega arith
+pub loop-mark-preserved-then-eq : goal.loop-mark-preserved-then-eq
+loop-mark-preserved-then-eq c =
+    rw (length_push c.loop-mark.yielded (c.in-Some.mark, c.in-Some.row))
+    (omega (arith, c.loop-mark.invariant, rw c.if-eq.true at (next (goal.at.loop-mark-preserved-then-eq c).After-eq)))
 
-pub loop-i-smaller : goal.loop-i-smaller
-loop-i-smaller c = omega arith
-
-pub loop-i-preserved : goal.loop-i-preserved
-unfolding is_marked
-loop-i-preserved c =
-    let t = c in
-    let w = t.loop-i.invariant in
-    elim c.if-marks-i-eq-DONE.branch [
-      | then-marks-i-eq-DONE v ↦ rw v.sum-is (adding-in _ _ w t.loop-i-test.true t.requires.small (eq-eqb _ _ v.if-marks-i-eq-DONE.true))
-      | else-marks-i-eq-DONE v ↦ rw v.sum-is (adding-out _ _ w t.loop-i-test.true (ne_eqb _ _ v.if-marks-i-eq-DONE.false))
-    ]
+pub loop-mark-preserved : goal.loop-mark-preserved
+loop-mark-preserved c =
+    rw (length_push c.loop-mark.yielded (c.in-Some.mark, c.in-Some.row))
+    (omega (arith, c.loop-mark.invariant, rw c.if-eq.false at (next (goal.at.loop-mark-preserved c).After-eq)))
 
 pub returns : goal.returns
-returns c = added _ _ c.loop-i.invariant c.loop-i-test.false
+returns c =
+    let t = zip_end c.args.marks.now c.args.rows.now c.loop-mark.yielded c.into_iter-mark-iterator.result c.loop-mark.mark-iterator c.next.new.self c.next.result (cc) (cc) c.loop-mark.yielded_by c.in-None.is c.next.ensures.steps in
+    let all : length c.loop-mark.yielded ≡ length c.args.marks.now = omega arith in
+    c.loop-mark.invariant ∙ ap (marked_sum c.args.marks.now c.args.rows.now) all

@@ -1,77 +1,44 @@
 -- `ancestors::lists::put_rows` meets its contract. Assumes nothing.
-use Prim.Native.Nat.{◌-◌, ◌<◌}
-use mathlib.Core.Path.{◌≡◌, sym, ◌∙◌}
-use native.Mathlib.Omega.{arith}
-use lib.ListN.{length}
-use Rattle.ancestors.proofs.Marked.{counting-none, counting-in, counting-out, listed-room, put-none, put_in, put-out, put-long}
+use Rattle.std.proofs.Common.{◌<◌, length, sym, ◌∙◌, arith, rules}
+use Rattle.metafile.specs.Answers.{placed}
+use Rattle.ancestors.proofs.Marked.{listed-none, listed-room, listed-more, listed-out, put_in}
 use Rattle.ancestors.proofs.lists.put_rows.Goals as goal
 use Rattle.ancestors.proofs.lists.put_rows.Goals.{Then-is_listed, then-is_listed, else-is_listed}
 
 pub loop-i-init : goal.loop-i-init
-loop-i-init c = (counting-none _ _ _, put-none _ _ _)
-
-pub is_listed-requires : goal.is_listed-requires
-is_listed-requires c = omega arith
+unfolding placed
+loop-i-init c = rw (listed-none c.args.marks.now c.args.row) (search rules)
 
 -- the row is in the list
 put : (c : Then-is_listed) → c.loop-i.used < length c.loop-i.list
 put c =
-    let t = c in
-    let l = t in
-    let room = l.requires.n_in_bounds_2 in
-    let w = l.loop-i.invariant.0 in
     omega (
       arith,
-      w.is,
-      listed-room l.args.marks.now l.args.row l.loop-i.i l.args.n t.loop-i-test.true (sym c.is_listed.ensures ∙ c.if-is_listed.true),
-      put-long _ _ l.args.list.now l.loop-i.list l.loop-i.i l.args.n w.few room l.loop-i.invariant.1,
+      c.loop-i.invariant.0,
+      c.loop-i.auto.list,
+      listed-room c.args.marks.now c.args.row c.loop-i.i _ c.loop-i-test.true (sym c.is_listed.ensures ∙ c.if-is_listed.true),
     )
 
 pub offset_bounds-list-used : goal.offset_bounds-list-used
-offset_bounds-list-used c =
-    let l = c in
-    omega (
-      arith,
-      put c,
-      l.well_formed,
-      put-long _ _ l.args.list.now l.loop-i.list l.loop-i.i l.args.n l.loop-i.invariant.0.few l.requires.n_in_bounds_2 l.loop-i.invariant.1,
-    )
+offset_bounds-list-used c = omega (arith, put (goal.at.offset_bounds-list-used c).Then-is_listed, c.well_formed)
 
 pub bounds-list-used : goal.bounds-list-used
-bounds-list-used c = put c
+bounds-list-used c = put (goal.at.bounds-list-used c).Then-is_listed
 
 pub overflow_add-used : goal.overflow_add-used
-overflow_add-used c = omega arith
-
-pub overflow_add-i : goal.overflow_add-i
-overflow_add-i c = omega arith
-
-pub loop-i-smaller : goal.loop-i-smaller
-loop-i-smaller c = omega arith
+overflow_add-used c = omega (arith, put (goal.at.overflow_add-used c).Then-is_listed, c.well_formed)
 
 pub loop-i-preserved : goal.loop-i-preserved
 loop-i-preserved c =
-    let t = c in
-    let l = t in
-    let w = l.loop-i.invariant.0 in
-    let less = t.loop-i-test.true in
-    let is = c.is_listed.ensures in
+    let w = c.loop-i.invariant in
     elim c.if-is_listed.branch [
       | then-is_listed v ↦
-          let e = sym is ∙ v.if-is_listed.true in
-          rw (v.used-is, v.list-is) (counting-in _ _ w less e, rw l.loop-i.invariant.1 (put_in _ _ _ _ _ _ less e l.requires.n_in_bounds_2 w.is))
+          let e = sym c.is_listed.ensures ∙ v.if-is_listed.true in
+          rw (v.used-is, v.list-is) (
+            omega (arith, w.0, listed-more c.args.marks.now c.args.row c.loop-i.i e),
+            rw w.1 (put_in c.args.marks.now c.args.row _ _ _ _ c.loop-i-test.true e c.requires w.0),
+          )
       | else-is_listed v ↦
-          let e = sym is ∙ v.if-is_listed.false in
-          rw (v.used-is, v.list-is) (counting-out _ _ w less e, l.loop-i.invariant.1 ∙ put-out _ _ _ _ e)
+          let e = sym c.is_listed.ensures ∙ v.if-is_listed.false in
+          rw (v.used-is, v.list-is, listed-out c.args.marks.now c.args.row c.loop-i.i e) w
     ]
-
-pub shape_of-list : goal.shape_of-list
-shape_of-list c =
-    let l = c in
-    put-long _ _ _ _ _ _ l.loop-i.invariant.0.few l.requires.n_in_bounds_2 l.loop-i.invariant.1
-
-pub returns : goal.returns
-returns c =
-    let l = c in
-    let all : l.loop-i.i ≡ l.args.n = omega (arith, l.loop-i.invariant.0.few, c.loop-i-test.false) in
-    rw (← all) l.loop-i.invariant.1

@@ -1,5 +1,5 @@
 -- `ancestors::steps::row_with` meets its contract. Assumes nothing.
-use Prim.Native.Nat.{◌-◌, ◌≤◌}
+use Rattle.std.proofs.Common.{◌≤◌}
 use Rattle.metafile.specs.Bytes.{part}
 use Rattle.metafile.specs.Reading.{rows_of}
 use Rattle.metafile.specs.Calls.{row_with}
@@ -7,6 +7,3 @@ use Rattle.ancestors.proofs.steps.row_with.Given as goal
 
 abbrev pub invariant-loop-i : goal.invariant-loop-i
 invariant-loop-i l = l.i ≤ row_with (part l.serial 38 l.file) (rows_of l.file)
-
-abbrev pub decreases-loop-i : goal.decreases-loop-i
-decreases-loop-i l = l.n - l.i

@@ -3,7 +3,7 @@ use native.Mathlib.Omega.{arith}
 use borrow.Author.Rules.{rules}
 use Rattle.writer.proofs.Described.{Widths, given-size, closing-size, unformed, formed-is}
 use Rattle.append.proofs.tests.is_formed.Goals as goal
-use Rattle.append.proofs.tests.is_formed.Goals.{Start}
+use Rattle.append.proofs.tests.is_formed.Goals.{Start, then-d-gt-NAME-via-then-d-gt-NAME, then-d-gt-NAME-via-else-d-gt-NAME+then-d-gt-AGENT, then-d-gt-NAME-via-else-d-gt-NAME+else-d-gt-AGENT+then-d-gt-AGENT-2}
 
 widths : (s : Start) → Widths s.args.d
 widths s =
@@ -20,14 +20,13 @@ widths s =
       written = search rules;
     }
 
-pub returns-then-name-gt-NAME : goal.returns-then-name-gt-NAME
-returns-then-name-gt-NAME c = unformed c.args.d (λ f. omega (arith, f.name, c.if-name-gt-NAME.true))
-
-pub returns-then-recorder-gt-AGENT : goal.returns-then-recorder-gt-AGENT
-returns-then-recorder-gt-AGENT c = unformed c.args.d (λ f. omega (arith, f.recorder, c.if-recorder-gt-AGENT.true))
-
-pub returns-then-writer-gt-AGENT : goal.returns-then-writer-gt-AGENT
-returns-then-writer-gt-AGENT c = unformed c.args.d (λ f. omega (arith, f.writer, c.if-writer-gt-AGENT.true))
+pub returns-then-d-gt-NAME : goal.returns-then-d-gt-NAME
+returns-then-d-gt-NAME c =
+    elim c.then-d-gt-NAME.branch [
+      | then-d-gt-NAME-via-then-d-gt-NAME w ↦ unformed c.args.d (λ f. omega (arith, f.name, w.if-d-gt-NAME.true))
+      | then-d-gt-NAME-via-else-d-gt-NAME+then-d-gt-AGENT w ↦ unformed c.args.d (λ f. omega (arith, f.recorder, w.if-d-gt-AGENT.true))
+      | then-d-gt-NAME-via-else-d-gt-NAME+else-d-gt-AGENT+then-d-gt-AGENT-2 w ↦ unformed c.args.d (λ f. omega (arith, f.writer, w.if-d-gt-AGENT-2.true))
+    ]
 
 pub values_formed-requires : goal.values_formed-requires
 values_formed-requires c = (omega arith, rw given-size (search rules))
@@ -37,10 +36,6 @@ values_formed-requires-2 c = (omega arith, rw closing-size (search rules))
 
 pub returns : goal.returns
 returns c =
-    let closing = c in
-    let given = closing in
-    let fits = given in
-    let start = fits in
-    formed-is start.args.d (widths (goal.at.returns c).Start) (record { name = fits.if-name-gt-NAME.false; recorder = fits.if-recorder-gt-AGENT.false; writer = fits.if-writer-gt-AGENT.false })
-    c.values_formed.result c.values_formed-2.result given.given_values-given.result closing.closing_values-closing.result
-    given.given_values-given.ensures closing.closing_values-closing.ensures c.values_formed.ensures c.values_formed-2.ensures
+    formed-is c.args.d (widths (goal.at.returns c).Start) (record { name = c.if-d-gt-NAME.false; recorder = c.if-d-gt-AGENT.false; writer = c.if-d-gt-AGENT-2.false })
+    c.values_formed.result c.values_formed-2.result c.given_values-given.result c.closing_values-closing.result
+    c.given_values-given.ensures c.closing_values-closing.ensures c.values_formed.ensures c.values_formed-2.ensures

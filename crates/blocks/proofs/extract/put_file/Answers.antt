@@ -12,7 +12,7 @@ use Rattle.blocks.proofs.extract.put_file.Goals.{After-big_value-used, In-loop-i
 
 pub loop-i-init : goal.loop-i-init
 unfolding join_below
-loop-i-init c = (omega arith, put-none 0 c.args.buffer.now (omega arith))
+loop-i-init c = put-none 0 c.args.buffer.now (omega arith)
 
 -- as many blocks as the code counts
 counted : (c : Start) → length c.args.x.now / 512 ≡ blocks_of c.args.x.now
@@ -60,7 +60,7 @@ room c =
     omega (arith, counted, c.loop-i-test.true) in
     let i = c in
     let k = i in
-    let p = i.loop-i.invariant.1 in
+    let p = i.loop-i.invariant in
     omega (arith, p.end_is, put-length p, data-room k.args.x.now i.loop-i.i less, k.requires.x_in_bounds)
 
 pub put_bytes-p-requires : goal.put_bytes-p-requires
@@ -83,15 +83,15 @@ loop-i-preserved c =
       bytes-are = q.put_bytes-p.ensures.1;
     }
     in
-    (omega (arith, i.loop-i-test.true), put_is (sym (join_more l.loop-i.i (data_of x))) (put-behind l.loop-i.invariant.1 put))
+    put_is (sym (join_more l.loop-i.i (data_of x))) (put-behind l.loop-i.invariant put)
 
 pub returns : goal.returns
 unfolding unpacked
 returns c =
     let l = c in
     let k = l in
-    let all : l.loop-i.i ≡ blocks_of k.args.x.now = omega (arith, l.loop-i.invariant.0, c.loop-i-test.false, counted (goal.at.returns c).Start) in
-    rw (← all) l.loop-i.invariant.1.bytes-are
+    let all : l.loop-i.i ≡ blocks_of k.args.x.now = omega (arith, c.loop-i-test.false, counted (goal.at.returns c).Start) in
+    rw (← all) l.loop-i.invariant.bytes-are
 
 pub overflow_mul-from : goal.overflow_mul-from
 overflow_mul-from c = omega (arith, fits c)
@@ -130,4 +130,4 @@ pub loop-i-smaller : goal.loop-i-smaller
 loop-i-smaller c = omega arith
 
 pub shape_of-buffer : goal.shape_of-buffer
-shape_of-buffer c = put-length c.loop-i.invariant.1
+shape_of-buffer c = put-length c.loop-i.invariant

@@ -3,31 +3,31 @@ use Rattle.std.proofs.Common.{◌≡◌, ◌+◌, ◌-◌, ◌≤◌, true, leng
 use borrow.Author.Tests.{not-true, not-false}
 use Rattle.metafile.specs.Bytes.{part, all, is_zero}
 use Rattle.blocks.specs.Blocks.{big_value, block_sum, use_of, use_right}
-use Rattle.blocks.proofs.Places.{spare-part}
+use Rattle.blocks.proofs.Places.{all-zeros, spare-part}
 use Rattle.blocks.proofs.Faults.{use-most, short-fault, sum-fault, number-fault, use-fault, spare-fault, no-fault}
 use mathlib.Core.Bool.{not}
 use Rattle.blocks.proofs.judge.block_fault.Goals as goal
-use Rattle.blocks.proofs.judge.block_fault.Goals.{After-all_zero, After-big_value-used, Else-b-lt512, Else-big_value-i, Else-block_sum-big_value, Else-not-use_right}
+use Rattle.blocks.proofs.judge.block_fault.Goals.{After-all_zero, After-big_value-used, Else-b-lt-BLOCK, Else-big_value-i, Else-from-big_value, Else-not-use_right}
 
-pub returns-then-b-lt512 : goal.returns-then-b-lt512
-returns-then-b-lt512 c = short-fault _ _ _ c.if-b-lt512.true
+pub returns-then-b-lt-BLOCK : goal.returns-then-b-lt-BLOCK
+returns-then-b-lt-BLOCK c = short-fault _ _ _ c.if-b-lt-BLOCK.true
 
-whole : (c : Else-b-lt512) → 512 ≤ length c.args.b.now
-whole c = c.if-b-lt512.false
+whole : (c : Else-b-lt-BLOCK) → 512 ≤ length c.args.b.now
+whole c = c.if-b-lt-BLOCK.false
 
-pub returns-then-block_sum-big_value : goal.returns-then-block_sum-big_value
-returns-then-block_sum-big_value c =
+pub returns-then-from-big_value : goal.returns-then-from-big_value
+returns-then-from-big_value c =
     let s = c in
-    sum-fault _ _ _ (whole (goal.at.returns-then-block_sum-big_value c).Else-b-lt512) s.block_sum.ensures c.big_value.ensures c.if-block_sum-big_value.true
+    sum-fault _ _ _ (whole (goal.at.returns-then-from-big_value c).Else-b-lt-BLOCK) (s.from.ensures ∙ s.block_sum.ensures) c.big_value.ensures c.if-from-big_value.true
 
-summed : (c : Else-block_sum-big_value) → block_sum (take 510 c.args.b.now) ≡ big_value (part 510 2 c.args.b.now)
-summed c = sym c.block_sum.ensures ∙ c.if-block_sum-big_value.false ∙ c.big_value.ensures
+summed : (c : Else-from-big_value) → block_sum (take 510 c.args.b.now) ≡ big_value (part 510 2 c.args.b.now)
+summed c = sym (c.from.ensures ∙ c.block_sum.ensures) ∙ c.if-from-big_value.false ∙ c.big_value.ensures
 
 pub returns-then-big_value-i : goal.returns-then-big_value-i
 returns-then-big_value-i c =
     let v = c in
     let e = v in
-    number-fault _ _ _ (whole (goal.at.returns-then-big_value-i c).Else-b-lt512) (summed (goal.at.returns-then-big_value-i c).Else-block_sum-big_value) (λ q. c.if-big_value-i.true (v.big_value-2.ensures ∙ q))
+    number-fault _ _ _ (whole (goal.at.returns-then-big_value-i c).Else-b-lt-BLOCK) (summed (goal.at.returns-then-big_value-i c).Else-from-big_value) (λ q. c.if-big_value-i.true (v.big_value-2.ensures ∙ q))
 
 numbered : (c : Else-big_value-i) → big_value (take 4 c.args.b.now) ≡ c.args.i
 numbered c = sym c.big_value-2.ensures ∙ c.if-big_value-i.false
@@ -42,7 +42,7 @@ returns-then-not-use_right c =
     let v = u in
     let e = v in
     let k = e in
-    use-fault _ _ _ (whole (goal.at.returns-then-not-use_right c).Else-b-lt512) (summed (goal.at.returns-then-not-use_right c).Else-block_sum-big_value) (numbered (goal.at.returns-then-not-use_right c).Else-big_value-i)
+    use-fault _ _ _ (whole (goal.at.returns-then-not-use_right c).Else-b-lt-BLOCK) (summed (goal.at.returns-then-not-use_right c).Else-from-big_value) (numbered (goal.at.returns-then-not-use_right c).Else-big_value-i)
     (sym (ap (λ n. use_right k.args.last k.args.i n) (used-is (goal.at.returns-then-not-use_right c).After-big_value-used)) ∙ sym u.use_right.ensures ∙ not-true _ (ap not c.if-not-use_right.true))
 
 used : (c : Else-not-use_right) → use_right c.args.last c.args.i (use_of c.args.b.now) ≡ true
@@ -64,17 +64,17 @@ unfolding use_of
 spares c =
     let used-is : c.big_value-used.result ≡ use_of c.args.b.now = c.big_value-used.ensures in
     let e = c in
-    c.all_zero.ensures ∙ ap (all is_zero) (spare-part _ _ _ used-is)
+    c.all_zero.ensures ∙ all-zeros _ ∙ ap (all is_zero) (spare-part _ _ _ used-is)
 
 pub returns-then-not-all_zero : goal.returns-then-not-all_zero
 returns-then-not-all_zero c =
     let e = c in
-    spare-fault _ _ _ (whole (goal.at.returns-then-not-all_zero c).Else-b-lt512) (summed (goal.at.returns-then-not-all_zero c).Else-block_sum-big_value) (numbered (goal.at.returns-then-not-all_zero c).Else-big_value-i) (used (goal.at.returns-then-not-all_zero c).Else-not-use_right) (sym (spares (goal.at.returns-then-not-all_zero c).After-all_zero) ∙ not-true _ (ap not c.if-not-all_zero.true))
+    spare-fault _ _ _ (whole (goal.at.returns-then-not-all_zero c).Else-b-lt-BLOCK) (summed (goal.at.returns-then-not-all_zero c).Else-from-big_value) (numbered (goal.at.returns-then-not-all_zero c).Else-big_value-i) (used (goal.at.returns-then-not-all_zero c).Else-not-use_right) (sym (spares (goal.at.returns-then-not-all_zero c).After-all_zero) ∙ not-true _ (ap not c.if-not-all_zero.true))
 
 pub returns : goal.returns
 returns c =
     let e = c in
-    no-fault _ _ _ (whole (goal.at.returns c).Else-b-lt512) (summed (goal.at.returns c).Else-block_sum-big_value) (numbered (goal.at.returns c).Else-big_value-i) (used (goal.at.returns c).Else-not-use_right) (sym (spares (goal.at.returns c).After-all_zero) ∙ not-false _ (ap not c.if-not-all_zero.false))
+    no-fault _ _ _ (whole (goal.at.returns c).Else-b-lt-BLOCK) (summed (goal.at.returns c).Else-from-big_value) (numbered (goal.at.returns c).Else-big_value-i) (used (goal.at.returns c).Else-not-use_right) (sym (spares (goal.at.returns c).After-all_zero) ∙ not-false _ (ap not c.if-not-all_zero.false))
 
 pub overflow_add-used : goal.overflow_add-used
 overflow_add-used c = omega (arith, few c)

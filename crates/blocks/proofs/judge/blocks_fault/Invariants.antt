@@ -1,12 +1,8 @@
--- `blocks::judge::blocks_fault` meets its contract. The loop's invariant: the blocks before `i` have no fault. The measure: the
--- blocks left. Assumes nothing.
-use Rattle.std.proofs.Common.{◌≡◌, ◌-◌, ◌≤◌}
+-- `blocks::judge::blocks_fault` meets its contract. The loop's invariant: the blocks before `i` have no fault. Assumes nothing.
+use Rattle.std.proofs.Common.{◌≡◌}
 use Rattle.metafile.specs.Below.{fault_below}
 use Rattle.blocks.specs.Blocks.{fault_of}
 use Rattle.blocks.proofs.judge.blocks_fault.Given as goal
 
 abbrev pub invariant-loop-i : goal.invariant-loop-i
-invariant-loop-i l = (l.i ≤ l.count) × (fault_below l.i (fault_of l.x) ≡ 0)
-
-abbrev pub decreases-loop-i : goal.decreases-loop-i
-decreases-loop-i l = l.count - l.i
+invariant-loop-i l = fault_below l.i (fault_of l.x) ≡ 0

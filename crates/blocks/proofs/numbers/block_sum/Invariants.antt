@@ -1,11 +1,8 @@
--- `blocks::numbers::block_sum` meets its contract. The loop's invariant: `acc` is the sum of the bytes before `i`. The measure
--- is what is left of the length. Assumes nothing.
-use Rattle.std.proofs.Common.{◌≡◌, ◌-◌, ◌≤◌, length, take}
+-- `blocks::numbers::block_sum` meets its contract. The loop's invariant: `acc` is the sum of the bytes before the one reached.
+-- Assumes nothing.
+use Rattle.std.proofs.Common.{◌≡◌, take}
 use Rattle.blocks.specs.Blocks.{block_sum}
 use Rattle.blocks.proofs.numbers.block_sum.Given as goal
 
-abbrev pub invariant-loop-i : goal.invariant-loop-i
-invariant-loop-i l = (l.i ≤ length l.s) × (l.acc ≡ block_sum (take l.i l.s))
-
-abbrev pub decreases-loop-i : goal.decreases-loop-i
-decreases-loop-i l = length l.s - l.i
+abbrev pub invariant-loop-b : goal.invariant-loop-b
+invariant-loop-b l = l.acc ≡ block_sum (take l.b-index l.s)

@@ -1,13 +1,9 @@
 -- `blocks::numbers::put_big` meets its contract. The loop's invariant: the number is put once the bytes left are put before
--- the place reached. The measure: the bytes left. Assumes nothing.
-use Rattle.std.proofs.Common.{◌≡◌, ◌≤◌, length}
+-- the place reached. Assumes nothing.
+use Rattle.std.proofs.Common.{◌≡◌}
 use Rattle.metafile.specs.Answers.{placed}
 use Rattle.blocks.specs.Blocks.{big_endian}
 use Rattle.blocks.proofs.numbers.put_big.Given as goal
 
 abbrev pub invariant-loop-k : goal.invariant-loop-k
-invariant-loop-k l =
-    (l.k ≤ l.n) × (length l.buffer ≡ length l.initial.buffer) × (placed l.at (big_endian l.n l.x) l.initial.buffer ≡ placed l.at (big_endian l.k l.rest) l.buffer)
-
-abbrev pub decreases-loop-k : goal.decreases-loop-k
-decreases-loop-k l = l.k
+invariant-loop-k l = placed l.at (big_endian l.n l.x) l.initial.buffer ≡ placed l.at (big_endian l.k l.rest) l.buffer

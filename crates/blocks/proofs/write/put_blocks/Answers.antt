@@ -12,7 +12,7 @@ use Rattle.blocks.proofs.write.put_blocks.Goals.{In-loop-i}
 
 pub loop-i-init : goal.loop-i-init
 unfolding join_below
-loop-i-init c = (omega arith, put-none 0 c.args.buffer.now (omega arith))
+loop-i-init c = put-none 0 c.args.buffer.now (omega arith)
 
 inside : (c : In-loop-i) → 504 * c.loop-i.i ≤ length c.args.file.now
 inside c = data-inside c.args.file.now c.loop-i.i (omega (arith, c.requires.count_value, c.loop-i-test.true))
@@ -24,20 +24,20 @@ pub overflow_add-from : goal.overflow_add-from
 overflow_add-from c = omega (arith, inside c, c.requires.file_len_bound)
 
 pub slice_bounds-put_block-count : goal.slice_bounds-put_block-count
-slice_bounds-put_block-count c = omega (arith, inside (goal.at.slice_bounds-put_block-count c).In-loop-i, c.lesser-end.ensures)
+slice_bounds-put_block-count c = omega (arith, inside (goal.at.slice_bounds-put_block-count c).In-loop-i, c.min-end.ensures)
 
 pub slice_bounds-put_block-start : goal.slice_bounds-put_block-start
-slice_bounds-put_block-start c = omega (arith, inside (goal.at.slice_bounds-put_block-start c).In-loop-i, c.lesser-end.ensures)
+slice_bounds-put_block-start c = omega (arith, inside (goal.at.slice_bounds-put_block-start c).In-loop-i, c.min-end.ensures)
 
 pub slice_bounds-put_block-end : goal.slice_bounds-put_block-end
-slice_bounds-put_block-end c = omega (arith, inside (goal.at.slice_bounds-put_block-end c).In-loop-i, c.lesser-end.ensures)
+slice_bounds-put_block-end c = omega (arith, inside (goal.at.slice_bounds-put_block-end c).In-loop-i, c.min-end.ensures)
 
 pub put_block-at-requires : goal.put_block-at-requires
 put_block-at-requires c =
     let e = c in
     let l = e in
     let k = e in
-    let p = l.loop-i.invariant.1 in record { v_len_bound = simp length-take (omega (arith, e.lesser-end.ensures)); at_in_bounds = omega (arith, p.end_is, put-length p, blocks-long k.args.file.now l.loop-i.i, e.loop-i-test.true, k.requires.count_in_bounds) }
+    let p = l.loop-i.invariant in record { v_len_bound = simp length-take (omega (arith, e.min-end.ensures)); at_in_bounds = omega (arith, p.end_is, put-length p, blocks-long k.args.file.now l.loop-i.i, e.loop-i-test.true, k.requires.count_in_bounds) }
 
 pub loop-i-preserved : goal.loop-i-preserved
 loop-i-preserved c =
@@ -45,18 +45,16 @@ loop-i-preserved c =
     let e = b in
     let i = e in
     let l = i in
-    let f = i.args.file.now in (
-      omega (arith, i.loop-i-test.true),
-      put_is (sym (join_more l.loop-i.i (block_for f))) (put-behind l.loop-i.invariant.1 (put_is (data_is f l.loop-i.i _ e.lesser-end.ensures) b.put_block-at.ensures)),
-    )
+    let f = i.args.file.now in
+    put_is (sym (join_more l.loop-i.i (block_for f))) (put-behind l.loop-i.invariant (put_is (data_is f l.loop-i.i _ e.min-end.ensures) b.put_block-at.ensures))
 
 pub returns : goal.returns
 unfolding packed
 returns c =
     let l = c in
     let k = l in
-    let all : l.loop-i.i ≡ block_count (length k.args.file.now) = omega (arith, l.loop-i.invariant.0, c.loop-i-test.false, k.requires.count_value) in
-    rw (← all) l.loop-i.invariant.1.bytes-are
+    let all : l.loop-i.i ≡ block_count (length k.args.file.now) = omega (arith, c.loop-i-test.false, k.requires.count_value) in
+    rw (← all) l.loop-i.invariant.bytes-are
 
 pub shape_of-buffer : goal.shape_of-buffer
-shape_of-buffer c = put-length c.loop-i.invariant.1
+shape_of-buffer c = put-length c.loop-i.invariant

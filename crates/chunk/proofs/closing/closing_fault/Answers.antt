@@ -1,45 +1,34 @@
 -- `chunk::closing::closing_fault` meets its contract: mark, integrity data, mark, each from where the one before ends.
 -- Assumes nothing.
-use Prim.Native.Nat.{◌+◌, ◌≤◌}
 use native.Mathlib.Omega.{arith}
-use lib.ListN.{length}
+use Rattle.std.proofs.lemmas.Result.{err_from_is_err_and}
 use Rattle.chunk.proofs.Closings.{mark-stop, mark-room, integrity-stop, integrity-room, closing-last}
 use Rattle.chunk.proofs.closing.closing_fault.Goals as goal
-use Rattle.chunk.proofs.closing.closing_fault.Goals.{After-struct_known-2-1}
 
-pub returns-then-first-ne0 : goal.returns-then-first-ne0
-returns-then-first-ne0 c =
-    let a = c.args in
-    let first = c.read_fixed-first in
-    mark-stop a.mark.now a.s.now a.at first.result first.ensures c.if-first-ne0.true
+pub returns-in_err-first : goal.returns-in_err-first
+returns-in_err-first c =
+    let p = err_from_is_err_and c.from_residual.result c.from_residual.ensures.1 in
+    rw (p.1, p.2) (mark-stop c.in_err-first.ensures)
 
-pub integrity_fault-wrong-requires : goal.integrity_fault-wrong-requires
-integrity_fault-wrong-requires c =
-    let a = c.args in
-    let first = c.read_fixed-first in
-    mark-room a.mark.now a.s.now a.at first.result first.ensures (omega arith) c.if-first-ne0.false
+pub integrity_fault-requires : goal.integrity_fault-requires
+integrity_fault-requires c = mark-room c.in_ok-first.ensures (omega arith)
 
-pub returns-then-wrong-ne0 : goal.returns-then-wrong-ne0
-returns-then-wrong-ne0 c =
-    let a = c.args in
-    let first = c.read_fixed-first in
-    integrity-stop a.mark.now a.s.now a.at first.result first.ensures c.if-first-ne0.false _ c.integrity_fault-wrong.ensures c.if-wrong-ne0.true
-
--- where the last mark begins is inside
-room : (c : After-struct_known-2-1) → c.read_fixed-first.result.at + 254 ≤ length c.args.s.now
-room c =
-    let a = c.args in
-    let first = c.read_fixed-first in
-    integrity-room a.mark.now a.s.now a.at first.result first.ensures c.if-first-ne0.false _ c.integrity_fault-wrong.ensures (omega arith) c.if-wrong-ne0.false
+pub returns-in_err-integrity_fault : goal.returns-in_err-integrity_fault
+returns-in_err-integrity_fault c =
+    let p = err_from_is_err_and c.from_residual-in_err-integrity_fault.result c.from_residual-in_err-integrity_fault.ensures.1 in
+    rw (p.1, p.2) (integrity-stop c.in_ok-first.ensures _ c.in_err-integrity_fault.ensures)
 
 pub overflow_add-first : goal.overflow_add-first
-overflow_add-first c = omega (arith, room c)
+overflow_add-first c =
+    omega (arith, integrity-room c.in_ok-first.ensures c.in_ok-integrity_fault.ensures (omega arith))
 
-pub read_fixed-last-requires : goal.read_fixed-last-requires
-read_fixed-last-requires c = room c
+pub read_fixed-requires-2 : goal.read_fixed-requires-2
+read_fixed-requires-2 c = integrity-room c.in_ok-first.ensures c.in_ok-integrity_fault.ensures (omega arith)
+
+pub returns-in_err-read_fixed : goal.returns-in_err-read_fixed
+returns-in_err-read_fixed c =
+    let p = err_from_is_err_and c.from_residual-in_err-read_fixed.result c.from_residual-in_err-read_fixed.ensures.1 in
+    rw (p.1, p.2) (closing-last c.in_ok-first.ensures c.in_ok-integrity_fault.ensures c.in_err-read_fixed.ensures)
 
 pub returns : goal.returns
-returns c =
-    let a = c.args in
-    let first = c.read_fixed-first in
-    closing-last a.mark.now a.s.now a.at first.result first.ensures c.if-first-ne0.false _ c.integrity_fault-wrong.ensures _ c.if-wrong-ne0.false c.read_fixed-last.ensures.first
+returns c = closing-last c.in_ok-first.ensures c.in_ok-integrity_fault.ensures c.in_ok-read_fixed.ensures

@@ -1,51 +1,34 @@
 -- `chunk::header::dependencies_fault` meets its contract. The loop's invariant: the run is that of the dependencies
--- left, from the place `at` on. The measure is how many are left. Assumes nothing.
+-- left, from the place `at` on. Assumes nothing.
+use Prim.Native.Nat.{◌-◌}
+use mathlib.Core.Path.{◌≡◌}
 use native.Mathlib.Omega.{arith}
+use Rattle.std.proofs.lemmas.Result.{err_from_is_err_and}
 use Rattle.chunk.proofs.Headers.{dependencies-begun, dependencies-lf, dependencies-first, dependencies-fit, dependencies-stop, dependencies-next, dependencies-end}
 use Rattle.chunk.proofs.header.dependencies_fault.Goals as goal
 
-pub read_field-end-requires : goal.read_field-end-requires
-read_field-end-requires c = omega arith
+pub returns-in_err-at : goal.returns-in_err-at
+returns-in_err-at c =
+    let p = err_from_is_err_and c.from_residual.result c.from_residual.ensures.1 in
+    rw (p.1, p.2) (dependencies-lf c.args.n c.in_err-at.ensures)
 
-pub returns-then-end-ne0 : goal.returns-then-end-ne0
-returns-then-end-ne0 c =
-    let a = c.args in
-    let end = c.read_field-end in
-    dependencies-lf a.s.now a.n end.result end.ensures c.if-end-ne0.true
-
-pub loop-left-init : goal.loop-left-init
-loop-left-init c =
-    let a = c.args in
-    let end = c.read_field-end in (
-      dependencies-first a.s.now a.n end.result end.ensures c.if-end-ne0.false (omega arith),
-      dependencies-begun a.s.now a.n end.result end.ensures c.if-end-ne0.false,
+pub loop-init : goal.loop-init
+loop-init c =
+    let all : c.args.n - 0 ≡ c.args.n = omega arith in (
+      dependencies-first c.args.n c.in_ok-at.ensures (omega arith),
+      rw all (dependencies-begun c.args.n c.in_ok-at.ensures),
     )
 
-pub dependency-parent-requires : goal.dependency-parent-requires
-dependency-parent-requires c = omega arith
+pub returns-in_err-at-2 : goal.returns-in_err-at-2
+returns-in_err-at-2 c =
+    let p = err_from_is_err_and c.from_residual-in_err-at-2.result c.from_residual-in_err-at-2.ensures.1 in
+    rw (p.1, p.2) (dependencies-stop (omega arith) c.loop.invariant.1 c.in_err-at-2.ensures)
 
-pub returns-then-parent-ne0 : goal.returns-then-parent-ne0
-returns-then-parent-ne0 c =
-    let k = c.loop-left in
-    let parent = c.dependency-parent in
-    dependencies-stop c.args.s.now _ k.at k.left parent.result parent.ensures c.loop-left-test.true k.invariant.1 c.if-parent-ne0.true
-
-pub overflow_sub-left : goal.overflow_sub-left
-overflow_sub-left c = omega arith
-
-pub loop-left-smaller : goal.loop-left-smaller
-loop-left-smaller c = omega arith
-
-pub loop-left-preserved : goal.loop-left-preserved
-loop-left-preserved c =
-    let s = c.args.s.now in
-    let k = c.loop-left in
-    let parent = c.dependency-parent in (
-      dependencies-fit s 0 k.at 0 parent.result parent.ensures k.invariant.0 c.if-parent-ne0.false,
-      dependencies-next s _ k.at k.left parent.result parent.ensures c.loop-left-test.true k.invariant.1 c.if-parent-ne0.false,
-    )
+pub loop-preserved : goal.loop-preserved
+loop-preserved c = (
+  dependencies-fit (omega arith) c.loop.invariant.1 c.in_ok-at-2.ensures c.loop.invariant.0,
+  dependencies-next (omega arith) c.loop.invariant.1 c.in_ok-at-2.ensures,
+)
 
 pub returns : goal.returns
-returns c =
-    let k = c.loop-left in
-    dependencies-end c.args.s.now _ k.at k.left (omega arith) k.invariant.1
+returns c = dependencies-end c.args.s.now _ c.loop.at _ (omega arith) c.loop.invariant.1

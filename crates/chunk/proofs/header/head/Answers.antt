@@ -1,121 +1,93 @@
 -- `chunk::header::head` meets its contract. Assumes nothing.
 use Prim.Native.Nat.{ℕ, ◌+◌, ◌*◌, ◌≤◌}
 use mathlib.Core.Path.{◌≡◌, sym, ap, ◌∙◌}
-use mathlib.Core.List.{List, ◌∷◌, []}
+use mathlib.Core.List.{◌∷◌, []}
 use native.Mathlib.Omega.{arith}
 use lib.ListN.{length, drop}
+use Rattle.std.proofs.lemmas.Result.{err_from_is_err_and}
 use Rattle.metafile.specs.Lines.{lf, run, value, free}
-use Rattle.metafile.specs.Chunk.{head, header_length, dependency_bytes, header_bytes, dependencies, chunk_header_fault, lengths_fault, dependency_fields, specific_place, specific}
+use Rattle.metafile.specs.Chunk.{header_length, dependency_bytes, header_bytes, dependencies, chunk_header_fault, dependency_fields, specific_place, specific}
+use Rattle.metafile.specs.declared.refusal.Refusal.TheVariants.{Short}
 use Rattle.laws.proofs.Stages.{stop, go}
+use Rattle.lines.proofs.Runs.{refused}
 use Rattle.chunk.specs.Layout.{Numbers}
-use Rattle.chunk.proofs.Headers.{head-long, header-below, header-bytes-is, dependencies-long, dependencies-are, specific-short, specific-whole, headless-of}
+use Rattle.chunk.proofs.Headers.{head-long, header-below, header-bytes-is, dependencies-long, dependencies-are, specific-short, specific-whole, head-refused}
 use Rattle.chunk.proofs.header.head.Goals as goal
-use Rattle.chunk.proofs.header.head.Goals.{After-count_at-header, After-dependencies_fault-broken, Else-broken-ne0, Else-fault-ne0, Else-wrong-ne0}
-
--- each stage that was passed has no fault
-head-none : (c : Else-fault-ne0) → run head c.args.s.now ≡ 0
-head-none c = sym c.head_fault-fault.ensures ∙ c.if-fault-ne0.false
+use Rattle.chunk.proofs.header.head.Goals.{After-count_at-header, In_ok-dependencies_fault}
 
 -- the numbers read
 numbers : (c : After-count_at-header) → Numbers c.args.s.now c.dependencies-n.result c.count_at-announced.result c.count_at-header.result
 unfolding dependency_bytes header_length
 numbers c = record { n-is = c.dependencies-n.ensures; d-is = c.count_at-announced.ensures; h-is = c.count_at-header.ensures }
 
-lengths_none : (c : Else-wrong-ne0) → lengths_fault c.args.s.now ≡ 0
-lengths_none c = sym c.numbers_fault-wrong.ensures ∙ c.if-wrong-ne0.false
+module _ (c : In_ok-dependencies_fault) where
+  dependencies-none : run (lf ∷ dependency_fields (dependencies c.args.s.now)) (drop 567 c.args.s.now) ≡ 0
+  dependencies-none = sym (dependencies-are c.args.s.now _ _ c.dependencies-n.ensures c.in_ok-dependencies_fault.ensures)
 
-abbrev dependencies_fault : List ℕ → ℕ
-dependencies_fault s = run (lf ∷ dependency_fields (dependencies s)) (drop 567 s)
+  room : 568 + 344 * dependencies c.args.s.now ≤ length c.args.s.now
+  room = dependencies-long _ c.args.s.now (head-long _ (sym c.in_ok-head_fault.ensures)) dependencies-none
 
-told : (c : After-dependencies_fault-broken) → c.dependencies_fault-broken.result ≡ dependencies_fault c.args.s.now
-unfolding dependency_bytes header_length
-told c =
-    let numbers : Numbers c.args.s.now c.dependencies-n.result c.count_at-announced.result c.count_at-header.result = record { n-is = c.dependencies-n.ensures; d-is = c.count_at-announced.ensures; h-is = c.count_at-header.ensures } in
-    dependencies-are c.args.s.now _ _ numbers.n-is c.dependencies_fault-broken.ensures
+  bytes-are : c.count_at-header.result + 32 ≡ header_bytes c.args.s.now
+  unfolding header_length
+  bytes-are = ap (λ (h : ℕ). h + 32) c.count_at-header.ensures ∙ sym (header-bytes-is c.args.s.now (sym c.in_ok-numbers_fault.ensures))
 
-dependencies-none : (c : Else-broken-ne0) → dependencies_fault c.args.s.now ≡ 0
-unfolding dependency_bytes header_length
-dependencies-none c =
-    let told : c.dependencies_fault-broken.result ≡ dependencies_fault c.args.s.now = let numbers : Numbers c.args.s.now c.dependencies-n.result c.count_at-announced.result c.count_at-header.result = record { n-is = c.dependencies-n.ensures; d-is = c.count_at-announced.ensures; h-is = c.count_at-header.ensures } in
-    dependencies-are c.args.s.now _ _ numbers.n-is c.dependencies_fault-broken.ensures in
-    sym told ∙ c.if-broken-ne0.false
+  -- so the answer is the last stage's
+  last : (f : ℕ) → f ≡ run (value (free (specific c.args.s.now)) ∷ []) (drop (specific_place c.args.s.now) c.args.s.now) → f ≡ chunk_header_fault c.args.s.now
+  unfolding chunk_header_fault
+  last f e = go _ _ _ (sym c.in_ok-head_fault.ensures) (go _ _ _ (sym c.in_ok-numbers_fault.ensures) (go _ _ _ dependencies-none e))
 
-room : (c : Else-broken-ne0) → 568 + 344 * dependencies c.args.s.now ≤ length c.args.s.now
-room c =
-    let head-none : run head c.args.s.now ≡ 0 = sym c.head_fault-fault.ensures ∙ c.if-fault-ne0.false in
-    dependencies-long _ c.args.s.now (head-long _ head-none) (dependencies-none c)
-
-bytes-are : (c : Else-broken-ne0) → c.count_at-header.result + 32 ≡ header_bytes c.args.s.now
-unfolding dependency_bytes header_length
-bytes-are c =
-    let numbers : Numbers c.args.s.now c.dependencies-n.result c.count_at-announced.result c.count_at-header.result = record { n-is = c.dependencies-n.ensures; d-is = c.count_at-announced.ensures; h-is = c.count_at-header.ensures } in
-    let lengths_none : lengths_fault c.args.s.now ≡ 0 = sym c.numbers_fault-wrong.ensures ∙ c.if-wrong-ne0.false in
-    ap (λ (h : ℕ). h + 32) numbers.h-is ∙ sym (header-bytes-is c.args.s.now lengths_none)
-
--- so the answer is the last stage's
-last : (c : Else-broken-ne0) (f : ℕ) → f ≡ run (value (free (specific c.args.s.now)) ∷ []) (drop (specific_place c.args.s.now) c.args.s.now) → f ≡ chunk_header_fault c.args.s.now
+pub returns-in_err-head_fault : goal.returns-in_err-head_fault
 unfolding chunk_header_fault
-last c f e =
-    let head-none : run head c.args.s.now ≡ 0 = sym c.head_fault-fault.ensures ∙ c.if-fault-ne0.false in
-    let lengths_none : lengths_fault c.args.s.now ≡ 0 = sym c.numbers_fault-wrong.ensures ∙ c.if-wrong-ne0.false in
-    go _ _ _ head-none
-    (go _ _ _ lengths_none (go _ _ _ (dependencies-none c) e))
-
-pub returns-then-fault-ne0 : goal.returns-then-fault-ne0
-unfolding chunk_header_fault
-returns-then-fault-ne0 c =
-    headless-of _ _ _ c.no_head.ensures (stop _ _ _ c.head_fault-fault.ensures c.if-fault-ne0.true) c.if-fault-ne0.true
+returns-in_err-head_fault c =
+    let p = err_from_is_err_and c.from_residual.result c.from_residual.ensures.1 in
+    rw (p.1, p.2) (head-refused _ (stop _ _ _ c.in_err-head_fault.ensures (refused _)))
 
 pub dependencies-n-requires : goal.dependencies-n-requires
-dependencies-n-requires c = head-long _ (head-none c)
+dependencies-n-requires c = head-long _ (sym c.in_ok-head_fault.ensures)
 
 pub count_at-announced-requires : goal.count_at-announced-requires
-count_at-announced-requires c = (omega arith, omega (arith, head-long c.args.s.now (head-none (goal.at.count_at-announced-requires c).Else-fault-ne0)))
+count_at-announced-requires c = (omega arith, omega (arith, head-long c.args.s.now (sym c.in_ok-head_fault.ensures)))
 
 pub count_at-header-requires : goal.count_at-header-requires
-count_at-header-requires c = (omega arith, omega (arith, head-long c.args.s.now (head-none (goal.at.count_at-header-requires c).Else-fault-ne0)))
+count_at-header-requires c = (omega arith, omega (arith, head-long c.args.s.now (sym c.in_ok-head_fault.ensures)))
 
-pub numbers_fault-wrong-requires : goal.numbers_fault-wrong-requires
-numbers_fault-wrong-requires c = record { lines = head-none (goal.at.numbers_fault-wrong-requires c).Else-fault-ne0; numbers = numbers c }
+pub numbers_fault-requires : goal.numbers_fault-requires
+numbers_fault-requires c =
+    record { lines = sym c.in_ok-head_fault.ensures; numbers = numbers (goal.at.numbers_fault-requires c).After-count_at-header }
 
-pub returns-then-wrong-ne0 : goal.returns-then-wrong-ne0
+pub returns-in_err-numbers_fault : goal.returns-in_err-numbers_fault
 unfolding chunk_header_fault
-returns-then-wrong-ne0 c =
-    let l = c in
-    headless-of _ _ _ c.no_head-then-wrong-ne0.ensures
-    (go _ _ _ (head-none (goal.at.returns-then-wrong-ne0 c).Else-fault-ne0) (stop _ _ _ l.numbers_fault-wrong.ensures c.if-wrong-ne0.true))
-    c.if-wrong-ne0.true
+returns-in_err-numbers_fault c =
+    let p = err_from_is_err_and c.from_residual-in_err-numbers_fault.result c.from_residual-in_err-numbers_fault.ensures.1 in
+    rw (p.1, p.2) (head-refused _ (go _ _ _ (sym c.in_ok-head_fault.ensures) (stop _ _ _ c.in_err-numbers_fault.ensures (refused _))))
 
-pub dependencies_fault-broken-requires : goal.dependencies_fault-broken-requires
-dependencies_fault-broken-requires c = head-long _ (head-none (goal.at.dependencies_fault-broken-requires c).Else-fault-ne0)
+pub dependencies_fault-requires : goal.dependencies_fault-requires
+dependencies_fault-requires c = head-long _ (sym c.in_ok-head_fault.ensures)
 
-pub returns-then-broken-ne0 : goal.returns-then-broken-ne0
+pub returns-in_err-dependencies_fault : goal.returns-in_err-dependencies_fault
 unfolding chunk_header_fault
-returns-then-broken-ne0 c =
-    let d = c in
-    headless-of _ _ _ c.no_head-then-broken-ne0.ensures
-    (go _ _ _ (head-none (goal.at.returns-then-broken-ne0 c).Else-fault-ne0)
-    (go _ _ _ (lengths_none (goal.at.returns-then-broken-ne0 c).Else-wrong-ne0) (stop _ _ _ (told (goal.at.returns-then-broken-ne0 c).After-dependencies_fault-broken) c.if-broken-ne0.true)))
-    c.if-broken-ne0.true
+returns-in_err-dependencies_fault c =
+    let p = err_from_is_err_and c.from_residual-in_err-dependencies_fault.result c.from_residual-in_err-dependencies_fault.ensures.1 in
+    rw (p.1, p.2) (head-refused _ (go _ _ _ (sym c.in_ok-head_fault.ensures) (go _ _ _ (sym c.in_ok-numbers_fault.ensures) (stop _ _ _ (dependencies-are c.args.s.now _ _ c.dependencies-n.ensures c.in_err-dependencies_fault.ensures) (refused _)))))
 
 pub overflow_add-bytes : goal.overflow_add-bytes
 overflow_add-bytes c =
     omega (
       arith,
       (numbers (goal.at.overflow_add-bytes c).After-count_at-header).h-is,
-      header-below c.args.s.now (head-none (goal.at.overflow_add-bytes c).Else-fault-ne0),
+      header-below c.args.s.now (sym c.in_ok-head_fault.ensures),
     )
 
 pub returns-then-s-bytes : goal.returns-then-s-bytes
 returns-then-s-bytes c =
-    let k = c in
-    headless-of _ _ 4 c.no_head-then-s-bytes.ensures (last (goal.at.returns-then-s-bytes c).Else-broken-ne0 4 (specific-short _ (room (goal.at.returns-then-s-bytes c).Else-broken-ne0) (omega (arith, bytes-are (goal.at.returns-then-s-bytes c).Else-broken-ne0, c.if-s-bytes.true)))) (λ e. omega (arith, e))
+    let d = (goal.at.returns-then-s-bytes c).In_ok-dependencies_fault in
+    head-refused Short (last d 4 (specific-short _ (room d) (omega (arith, bytes-are d, c.if-s-bytes.true))))
 
 pub returns : goal.returns
 returns c =
-    let k = c in
+    let d = (goal.at.returns c).In_ok-dependencies_fault in
     record {
-      fault = last (goal.at.returns c).Else-broken-ne0 0 (specific-whole _ (room (goal.at.returns c).Else-broken-ne0) (omega (arith, bytes-are (goal.at.returns c).Else-broken-ne0, c.if-s-bytes.false)));
-      bytes-are = λ z. bytes-are (goal.at.returns c).Else-broken-ne0;
-      count-is = λ z. (numbers (goal.at.returns c).After-count_at-header).n-is;
+      fault = last d 0 (specific-whole _ (room d) (omega (arith, bytes-are d, c.if-s-bytes.false)));
+      bytes-are = bytes-are d;
+      count-is = c.dependencies-n.ensures;
     }

@@ -4,16 +4,17 @@ use Rattle.metafile.specs.Days.{day_value_of}
 use Rattle.fields.proofs.Days.{read-on}
 use Rattle.fields.proofs.dates.day_number.Goals as goal
 
-pub number_on-requires : goal.number_on-requires
-number_on-requires c =
-    let d = c in
-    let k = d in
-    let asked = read-on _ _ _ k.requires.of (sym d.in-On.is ∙ k.requires.is) in record { day_value = asked.0; year_bound = asked.1 }
+pub number_on-requires-clause-day_value : goal.number_on-requires-clause-day_value
+number_on-requires-clause-day_value c =
+    rw (c.from.ensures, c.from-in-Some.ensures, c.from-in-Some-2.ensures) (read-on _ c.requires.of (sym c.in-Some.is ∙ c.requires.is)).0
 
-pub returns-in-On : goal.returns-in-On
-unfolding day_value_of
-returns-in-On c = rw c.in-On.is c.number_on.ensures
+pub number_on-requires-clause-year_bound : goal.number_on-requires-clause-year_bound
+number_on-requires-clause-year_bound c = rw c.from.ensures (read-on _ c.requires.of (sym c.in-Some.is ∙ c.requires.is)).1
 
-pub returns-in-NoDate : goal.returns-in-NoDate
+pub returns-in-Some : goal.returns-in-Some
 unfolding day_value_of
-returns-in-NoDate c = rw c.in-NoDate.is
+returns-in-Some c = rw (c.in-Some.is, ← c.from.ensures, ← c.from-in-Some.ensures, ← c.from-in-Some-2.ensures) c.number_on.ensures
+
+pub returns-in-None : goal.returns-in-None
+unfolding day_value_of
+returns-in-None c = rw c.in-None.is

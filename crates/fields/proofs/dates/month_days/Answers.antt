@@ -7,10 +7,10 @@ pub returns-then-month : goal.returns-then-month
 returns-then-month c = month-none _ _ c.if-month.true
 
 pub overflow_add-result : goal.overflow_add-result
-overflow_add-result c = february-fits c.leap.result
+overflow_add-result c = rw c.from.ensures (february-fits c.leap.result)
 
 pub returns-then-month-eq2 : goal.returns-then-month-eq2
-returns-then-month-eq2 c = month-february _ _ _ c.if-month-eq2.true c.leap.ensures
+returns-then-month-eq2 c = rw c.from.ensures (month-february _ _ _ c.if-month-eq2.true c.leap.ensures)
 
 pub overflow_add-result-2 : goal.overflow_add-result-2
 overflow_add-result-2 c = omega (arith, month-le c.args.month c.if-month.false)

@@ -4,8 +4,8 @@ use Rattle.fields.proofs.dates.month_start.Goals as goal
 
 pub overflow_add-result : goal.overflow_add-result
 unfolding start
-overflow_add-result c = start_fits c.leap.result c.args.month c.requires
+overflow_add-result c = rw c.from.ensures (start_fits c.leap.result c.args.month c.requires)
 
 pub returns : goal.returns
 unfolding start
-returns c = month-start c.args.year c.args.month c.leap.result c.requires c.leap.ensures
+returns c = rw c.from.ensures (month-start c.args.year c.args.month c.leap.result c.requires c.leap.ensures)

@@ -1,36 +1,14 @@
--- `fields::numbers::leading` meets its contract. The loop's invariant: the bytes passed count, and the rest counts on.
--- The measure: what is left of the slice. Assumes nothing.
-use native.Mathlib.Omega.{arith}
-use Rattle.fields.proofs.Prefix.{byte-below, byte_above, byte-within, prefix-passed, prefix-stopped, prefix-end}
+-- `fields::numbers::leading` meets its contract. Assumes nothing.
+use Rattle.std.proofs.Common.{◌∙◌, rules, tests}
+use Rattle.std.proofs.lemmas.Iterator.{YieldsList-from_slice}
+use Rattle.std.proofs.lemmas.Iterator.Consumers.{count_from_yields_List}
+use Rattle.std.proofs.lemmas.Iterator.Search.{YieldsList-from_take_while}
+use Rattle.std.proofs.lemmas.List.Folds.{length-prefix_len}
+use Rattle.fields.proofs.Prefix.{within, prefix-std}
 use Rattle.fields.proofs.numbers.leading.Goals as goal
 
-pub loop-i-init : goal.loop-i-init
-loop-i-init c = (omega arith, omega arith)
-
-pub bounds-s-i : goal.bounds-s-i
-bounds-s-i c = omega arith
-
-pub returns-then-s-i : goal.returns-then-s-i
-returns-then-s-i c = prefix-stopped _ _ _ (omega arith) (byte-below _ _ _ c.if-s-i.true) c.loop-i.invariant.1
-
-pub bounds-s-i-in-loop-i : goal.bounds-s-i-in-loop-i
-bounds-s-i-in-loop-i c = omega arith
-
-pub returns-then-s-i-2 : goal.returns-then-s-i-2
-returns-then-s-i-2 c =
-    prefix-stopped _ _ _ (omega arith) (byte_above _ _ _ c.if-s-i-2.true c.if-s-i.false)
-    c.loop-i.invariant.1
-
-pub overflow_add-i : goal.overflow_add-i
-overflow_add-i c = omega arith
-
-pub loop-i-smaller : goal.loop-i-smaller
-loop-i-smaller c = omega arith
-
-pub loop-i-preserved : goal.loop-i-preserved
-loop-i-preserved c =
-    let h = byte-within _ _ _ c.if-s-i.false c.if-s-i-2.false in
-    (omega arith, prefix-passed _ _ _ (omega arith) h c.loop-i.invariant.1)
-
 pub returns : goal.returns
-returns c = prefix-end _ _ _ (omega arith) c.loop-i.invariant.1
+returns c =
+    let s = c.args.s.now in
+    let p = within c.args.low c.args.high in
+    prefix-std p s _ (count_from_yields_List c.take_while.result _ c.count.ensures.ran (YieldsList-from_take_while _ p (YieldsList-from_slice s cc) c.take_while.ensures.closure c.take_while.ensures.done (λ x b q k. search (rules, tests))) ∙ length-prefix_len p s)

@@ -4,8 +4,9 @@ use mathlib.Core.Path.{◌≡◌, sym, ap, ◌∙◌}
 use native.Mathlib.Omega.{arith}
 use lib.Dec.{eqb}
 use lib.ListN.{get_or}
+use Rattle.std.specs.Option.{is_some}
 use Rattle.metafile.specs.Fields.{is_serial}
-use Rattle.metafile.specs.Days.{serial_read, day_fault}
+use Rattle.metafile.specs.Days.{serial_read}
 use Rattle.fields.proofs.Same.{first-is}
 use Rattle.fields.proofs.Days.{serial-tested, serial-day}
 use Rattle.fields.proofs.serials.read_serial.Goals as goal
@@ -17,7 +18,7 @@ tested : (c : After-is_count)
     let d = t in
     let f = d in
     (eqb (get_or f.args.serial 0 0) 35
-    && eqb f.fault.result 0
+    && f.is_some.result
     && d.digits_at.result
     && d.digits_at-2.result
     && d.digits_at-3.result
@@ -25,7 +26,7 @@ tested : (c : After-is_count)
     && t.is_text.result
     && t.digits_at-5.result
     && c.is_count.result
-    && eqb r.count_value.result r.byte_sum.result)
+    && eqb r.count_value.result r.from.result)
     ≡ is_serial f.args.serial
 tested c =
     let r = c in
@@ -35,7 +36,7 @@ tested c =
     let k = f in
     serial-tested k.args.serial _ _ _ _ _ _ _ _ _ _ _
     (sym (first-is k.args.serial 35 (omega (arith, k))))
-    (f.fault.ensures ∙ ap day_fault f.read_date-day.ensures)
+    (f.is_some.ensures ∙ ap is_some f.read_date-day.ensures)
     d.digits_at.ensures
     d.digits_at-2.ensures
     d.digits_at-3.ensures
@@ -44,7 +45,7 @@ tested c =
     t.digits_at-5.ensures
     c.is_count.ensures
     r.count_value.ensures
-    r.byte_sum.ensures
+    (r.from.ensures ∙ r.byte_sum.ensures)
 
 pub returns-then-good-is_count : goal.returns-then-good-is_count
 returns-then-good-is_count c =

@@ -2,16 +2,16 @@
 use mathlib.Core.Path.{◌∙◌}
 use Rattle.metafile.specs.Lines.{date_fault}
 use Rattle.lines.proofs.Judged.{judged-short, judged}
-use native.Mathlib.Omega.{arith}
+use Rattle.std.proofs.lemmas.Result.{err_from_is_err_and}
 use Rattle.lines.proofs.judge.date_fault.Goals as goal
 
-pub returns-then-s-at-lt-DATE : goal.returns-then-s-at-lt-DATE
-returns-then-s-at-lt-DATE c =
-    let args = c.args in
-    judged-short 8 date_fault args.s.now args.at (omega arith)
+pub returns-in_err-v : goal.returns-in_err-v
+returns-in_err-v c =
+    let p = err_from_is_err_and c.from_residual.result c.from_residual.ensures.1 in
+    rw (p.1, p.2, c.in_err-v.ensures.0) (judged-short 8 date_fault c.args.s.now c.in_err-v.ensures.1)
 
 pub returns : goal.returns
 unfolding date_fault
 returns c =
-    let args = c.args in
-    judged 8 date_fault args.s.now args.at c.fault.result (omega arith) (omega arith) (c.fault.ensures ∙ rw c.read_date-day.ensures)
+    let v = c.in_ok-v in
+    judged 8 date_fault c.args.s.now _ v.v.now v.ensures.0 v.ensures.1 (c.fault.ensures ∙ rw c.read_date.ensures)

@@ -1,26 +1,28 @@
 -- `lines::judge::strategy_fault` meets its contract. Assumes nothing.
-use Rattle.lines.proofs.Judged.{strategy-stop, strategy-room, strategy-go}
+use Prim.Native.Nat.{◌≤◌}
+use lib.ListN.{length}
+use Rattle.std.proofs.Common.{rules}
 use Rattle.lines.specs.Words.{word_no}
-use native.Mathlib.Omega.{arith}
+use Rattle.lines.proofs.Judged.{strategy-stop, strategy-room, strategy-go}
+use Rattle.std.proofs.lemmas.Result.{err_from_is_err_and}
 use Rattle.lines.proofs.judge.strategy_fault.Goals as goal
 
-pub returns-then-word-ne0 : goal.returns-then-word-ne0
+pub returns-in_err-word_fault : goal.returns-in_err-word_fault
 unfolding word_no
-returns-then-word-ne0 c =
-    let args = c.args in
-    strategy-stop args.s.now args.at c.word_fault-word.result c.word_fault-word.ensures c.if-word-ne0.true
+returns-in_err-word_fault c =
+    let p = err_from_is_err_and c.from_residual.result c.from_residual.ensures.1 in
+    rw (p.1, p.2) (strategy-stop c.args.s.now _ c.in_err-word_fault.ensures)
 
-pub count_fault-requires : goal.count_fault-requires
+pub slice_bounds-count_fault-count : goal.slice_bounds-count_fault-count
 unfolding word_no
-count_fault-requires c =
-    let args = c.args in
-    omega (arith, strategy-room args.s.now args.at c.word_fault-word.result c.word_fault-word.ensures (omega arith) c.if-word-ne0.false)
+slice_bounds-count_fault-count c = strategy-room c.args.s.now c.in_ok-word_fault.ensures
+
+pub slice_bounds-count_fault-start : goal.slice_bounds-count_fault-start
+unfolding word_no
+slice_bounds-count_fault-start c =
+    let room : 3 ≤ length c.args.s.now = strategy-room c.args.s.now c.in_ok-word_fault.ensures in
+    search rules
 
 pub returns : goal.returns
 unfolding word_no
-returns c =
-    let args = c.args in
-    strategy-go args.s.now args.at c.word_fault-word.result c.word_fault-word.ensures c.count_fault.result c.if-word-ne0.false c.count_fault.ensures
-
-pub overflow_add-at : goal.overflow_add-at
-overflow_add-at c = omega arith
+returns c = strategy-go c.args.s.now c.in_ok-word_fault.ensures _ c.count_fault.ensures

@@ -11,4 +11,4 @@ returns-then-s-at c =
 pub returns : goal.returns
 returns c =
     let args = c.args in
-    mark-judged args.text.now args.s.now args.at c.verdict.result _ (omega arith) c.verdict.ensures c.begins.ensures
+    mark-judged args.text.now args.s.now args.at _ _ (omega arith) c.verdict.ensures c.begins.ensures

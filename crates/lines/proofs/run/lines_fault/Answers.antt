@@ -1,43 +1,33 @@
--- `lines::run::lines_fault` meets its contract. The loop's invariant: the run from the start is the run of the lines left
--- from the place reached. The measure: the lines left. Assumes nothing.
+-- `lines::run::lines_fault` meets its contract. Assumes nothing.
 use Prim.Native.Nat.{◌+◌, ◌-◌}
 use mathlib.Core.Path.{◌≡◌}
-use Rattle.lines.proofs.Runs.{lines-stop, lines-fits, lines_next, lines_end}
+use mathlib.Core.List.{[], ◌∷◌}
 use native.Mathlib.Omega.{arith}
+use Rattle.metafile.specs.Lines.{lines_of}
+use Rattle.table.specs.Codes.{line_no}
+use Rattle.lines.proofs.Runs.{lines_end, lines-stop, lines_next, takes-fits}
+use Rattle.std.proofs.lemmas.Result.{err_from_is_err_and}
 use Rattle.lines.proofs.run.lines_fault.Goals as goal
 
 pub loop-i-init : goal.loop-i-init
 loop-i-init c =
     let all : c.args.first + c.args.n - c.args.first ≡ c.args.n = omega arith in
-    (omega arith, omega arith, rw all)
+    record { fits = omega arith; left = rw all }
 
-pub returns-then-line-ne0 : goal.returns-then-line-ne0
-returns-then-line-ne0 c =
-    let args = c.args in
-    let loop = c.loop-i in
-    let line = c.read_line-line in
-    lines-stop args.s.now _ loop.p loop.i (args.first + args.n) loop.invariant.2 (omega arith) (omega arith) line.result line.ensures c.if-line-ne0.true
+pub read_line-requires : goal.read_line-requires
+read_line-requires c = omega arith
+
+pub returns-in_err-p : goal.returns-in_err-p
+returns-in_err-p c =
+    let p = err_from_is_err_and c.from_residual.result c.from_residual.ensures.1 in
+    rw (p.1, p.2) (lines-stop c.args.s.now _ c.loop-i.p c.loop-i.i (c.args.first + c.args.n) c.loop-i.invariant.left (omega arith) (omega arith) _ c.in_err-p.ensures)
 
 pub loop-i-preserved : goal.loop-i-preserved
 loop-i-preserved c =
-    let args = c.args in
-    let loop = c.loop-i in
-    let line = c.read_line-line in
-    (omega arith, lines-fits args.s.now _ loop.p loop.i (args.first + args.n) loop.invariant.2 (omega arith) (omega arith) line.result line.ensures (omega arith) c.if-line-ne0.false, lines_next args.s.now _ loop.p loop.i (args.first + args.n) loop.invariant.2 (omega arith) (omega arith) line.result line.ensures c.if-line-ne0.false)
+    record {
+      fits = takes-fits (lines_of (line_no c.loop-i.i ∷ [])) [] c.args.s.now c.loop-i.p _ c.in_ok-p.ensures (omega arith);
+      left = lines_next c.args.s.now _ c.loop-i.p c.loop-i.i (c.args.first + c.args.n) c.loop-i.invariant.left (omega arith) (omega arith) _ c.in_ok-p.ensures;
+    }
 
 pub returns : goal.returns
-returns c =
-    let args = c.args in
-    lines_end args.s.now _ c.loop-i.p c.loop-i.i (args.first + args.n) c.loop-i.invariant.2 (omega arith)
-
-pub overflow_add-end : goal.overflow_add-end
-overflow_add-end c = omega arith
-
-pub read_line-line-requires : goal.read_line-line-requires
-read_line-line-requires c = omega arith
-
-pub overflow_add-i : goal.overflow_add-i
-overflow_add-i c = omega arith
-
-pub loop-i-smaller : goal.loop-i-smaller
-loop-i-smaller c = omega arith
+returns c = lines_end c.args.s.now _ c.loop-i.p c.loop-i.i (c.args.first + c.args.n) c.loop-i.invariant.left (omega arith)

@@ -1,54 +1,25 @@
 -- `lines::stretches::head_lines_fault` meets its contract. Assumes nothing.
+use mathlib.Core.Path.{sym, ◌∙◌}
 use native.Mathlib.Omega.{arith}
 use Rattle.laws.proofs.First.{and_both}
 use Rattle.lines.proofs.Standing.{clean_line, clean-none, head-spans}
 use Rattle.lines.proofs.stretches.head_lines_fault.Goals as goal
 
-pub returns-then-a-b : goal.returns-then-a-b
-returns-then-a-b c =
-    let l8 = c in
-    let l7 = l8 in
-    let l6 = l7 in
-    let l5 = l6 in
-    let l4 = l5 in
-    let l3 = l4 in
-    let l2 = l3 in
-    let l1 = l2 in
-    let s = l1.args.s.now in
-    let t8 = and_both _ _ c.if-a-b.true in
+pub returns-then-is_ok : goal.returns-then-is_ok
+returns-then-is_ok c =
+    let t8 = and_both _ _ c.if-is_ok.true in
     let t7 = and_both _ _ t8.0 in
     let t6 = and_both _ _ t7.0 in
     let t5 = and_both _ _ t6.0 in
     let t4 = and_both _ _ t5.0 in
     let t3 = and_both _ _ t4.0 in
     let t2 = and_both _ _ t3.0 in
-    clean_line 0 7 0 s l1.read_line-a.result (omega arith) l1.read_line-a.ensures t2.0
-    (clean_line 1 6 _ _ l2.read_line-b.result (omega arith) l2.read_line-b.ensures t2.1
-    (clean_line 2 5 _ _ l3.read_line-c.result (omega arith) l3.read_line-c.ensures t3.1
-    (clean_line 3 4 _ _ l4.read_line-d.result (omega arith) l4.read_line-d.ensures t4.1
-    (clean_line 4 3 _ _ l5.read_line-e.result (omega arith) l5.read_line-e.ensures t5.1
-    (clean_line 5 2 _ _ l6.read_line-f.result (omega arith) l6.read_line-f.ensures t6.1
-    (clean_line 6 1 _ _ l7.read_line-g.result (omega arith) l7.read_line-g.ensures t7.1
-    (clean_line 7 0 _ _ l8.read_line-h.result (omega arith) l8.read_line-h.ensures t8.1
-    (clean-none 8 l8.read_line-h.result.at s))))))))
-
-pub read_line-b-requires : goal.read_line-b-requires
-read_line-b-requires c = omega (arith, head-spans)
-
-pub read_line-c-requires : goal.read_line-c-requires
-read_line-c-requires c = omega (arith, head-spans)
-
-pub read_line-d-requires : goal.read_line-d-requires
-read_line-d-requires c = omega (arith, head-spans)
-
-pub read_line-e-requires : goal.read_line-e-requires
-read_line-e-requires c = omega (arith, head-spans)
-
-pub read_line-f-requires : goal.read_line-f-requires
-read_line-f-requires c = omega (arith, head-spans)
-
-pub read_line-g-requires : goal.read_line-g-requires
-read_line-g-requires c = omega (arith, head-spans)
-
-pub read_line-h-requires : goal.read_line-h-requires
-read_line-h-requires c = omega (arith, head-spans)
+    clean_line 0 7 0 33 _ c.read_line-a.result (omega arith) (omega (arith, head-spans)) c.read_line-a.ensures (sym c.is_ok.ensures.value ∙ t2.0)
+    (clean_line 1 6 33 303 _ c.read_line-b.result (omega arith) (omega (arith, head-spans)) c.read_line-b.ensures (sym c.is_ok-then-s-ge-DEPENDENCY_COUNT_LINE.ensures.value ∙ t2.1)
+    (clean_line 2 5 303 320 _ c.read_line-c.result (omega arith) (omega (arith, head-spans)) c.read_line-c.ensures (sym c.is_ok-then-s-ge-DEPENDENCY_COUNT_LINE-2.ensures.value ∙ t3.1)
+    (clean_line 3 4 320 346 _ c.read_line-d.result (omega arith) (omega (arith, head-spans)) c.read_line-d.ensures (sym c.is_ok-then-s-ge-DEPENDENCY_COUNT_LINE-3.ensures.value ∙ t4.1)
+    (clean_line 4 3 346 408 _ c.read_line-e.result (omega arith) (omega (arith, head-spans)) c.read_line-e.ensures (sym c.is_ok-then-s-ge-DEPENDENCY_COUNT_LINE-4.ensures.value ∙ t5.1)
+    (clean_line 5 2 408 443 _ c.read_line-f.result (omega arith) (omega (arith, head-spans)) c.read_line-f.ensures (sym c.is_ok-then-s-ge-DEPENDENCY_COUNT_LINE-5.ensures.value ∙ t6.1)
+    (clean_line 6 1 443 503 _ c.read_line-g.result (omega arith) (omega (arith, head-spans)) c.read_line-g.ensures (sym c.is_ok-then-s-ge-DEPENDENCY_COUNT_LINE-6.ensures.value ∙ t7.1)
+    (clean_line 7 0 503 540 _ c.read_line-h.result (omega arith) (omega (arith, head-spans)) c.read_line-h.ensures (sym c.is_ok-then-s-ge-DEPENDENCY_COUNT_LINE-7.ensures.value ∙ t8.1)
+    (clean-none 8 540 c.args.s.now))))))))

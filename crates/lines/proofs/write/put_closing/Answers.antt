@@ -81,4 +81,4 @@ returns c =
     let digits = c.put_number-end in
     let last = c.put_bytes in
     let args = c.args in
-    (omega (arith, pre, mark.ensures.0, mark.auto.buffer, lines.ensures.0, lines.auto.buffer, label.ensures.0, label.auto.buffer, digits.ensures.0, digits.auto.buffer, last.ensures.0, last.auto.buffer, integrity-size, integrity-values, checksum-label), closing-put args.mark.now args.values.now args.buffer.now args.from args.at pre.0 pre.1 pre.2 mark.new.buffer lines.new.buffer label.new.buffer mark.result lines.result label.result mark.ensures.1 mark.ensures.0 lines.ensures.1 lines.ensures.0 label.ensures.1 label.ensures.0 total.result digits.result digits.new.buffer last.new.buffer total.ensures digits.ensures.1 digits.ensures.0 last.ensures.1)
+    (omega (arith, pre, mark.ensures.0, mark.auto.buffer, lines.ensures.0, lines.auto.buffer, label.ensures.0, label.auto.buffer, digits.ensures.0, digits.auto.buffer, last.ensures.0, last.auto.buffer, integrity-size, integrity-values, checksum-label), closing-put args.mark.now args.values.now args.buffer.now args.from args.at pre.0 pre.1 pre.2 mark.new.buffer lines.new.buffer label.new.buffer mark.result lines.result label.result mark.ensures.1 mark.ensures.0 lines.ensures.1 lines.ensures.0 label.ensures.1 label.ensures.0 c.from.result digits.result digits.new.buffer last.new.buffer (c.from.ensures ∙ total.ensures) digits.ensures.1 digits.ensures.0 last.ensures.1)

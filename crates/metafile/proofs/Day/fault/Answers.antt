@@ -2,10 +2,10 @@
 use Rattle.metafile.specs.Days.{day_fault}
 use Rattle.metafile.proofs.Day.fault.Goals as goal
 
-pub returns-in-On : goal.returns-in-On
+pub returns-in-Some : goal.returns-in-Some
 unfolding day_fault
-returns-in-On c = rw c.in-On.is
+returns-in-Some c = rw c.in-Some.is
 
-pub returns-in-NoDate : goal.returns-in-NoDate
+pub returns-in-None : goal.returns-in-None
 unfolding day_fault
-returns-in-NoDate c = rw c.in-NoDate.is
+returns-in-None c = rw c.in-None.is

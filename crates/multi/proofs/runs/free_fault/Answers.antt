@@ -8,7 +8,7 @@ returns-then-r-at c =
     let a = c.args in
     free-short a.n a.at a.r.now (omega arith) (omega arith)
 
-pub returns-else-r-at : goal.returns-else-r-at
-returns-else-r-at c =
+pub returns : goal.returns
+returns c =
     let a = c.args in
     free-long a.n a.at a.r.now (omega arith) (omega arith)

@@ -10,11 +10,6 @@ length_at-long-requires c =
     let a = c.args in
     omega (arith, type-least (drop a.at a.r.now))
 
-pub returns-then-long-lt-LEAST_TYPE_LENGTH : goal.returns-then-long-lt-LEAST_TYPE_LENGTH
-returns-then-long-lt-LEAST_TYPE_LENGTH c =
-    let a = c.args in
-    omega (arith, bytes-are a.at _ a.r.now c.length_at-long.ensures)
-
 pub overflow_add-result : goal.overflow_add-result
 overflow_add-result c =
     let a = c.args in

@@ -2,81 +2,46 @@
 use Prim.Native.Nat.{◌-◌}
 use mathlib.Core.Path.{sym, ◌∙◌}
 use native.Mathlib.Omega.{arith}
-use Rattle.multi.specs.Part.{kept_ids}
-use Rattle.laws.proofs.Stages.{none, stop, go}
+use Rattle.std.proofs.lemmas.Result.{err_from_is_err_and}
+use Rattle.laws.proofs.Stages.{stop, go}
+use Rattle.lines.proofs.Runs.{refused}
 use Rattle.multi.proofs.TypeStages.{type-stages, names-place, long-enough, rest-place, type-repeated, type-passed}
 use Rattle.multi.proofs.types.type_fault.Goals as goal
 
-pub returns-then-long-ne0 : goal.returns-then-long-ne0
-returns-then-long-ne0 c =
-    let a = c.args in
-    stop _ _ _ c.type_length_fault-long.ensures c.if-long-ne0.true
-    ∙ sym (type-stages a.last a.announced (a.at - 65) (kept_ids a.n a.ids.now) a.at a.r.now)
+pub returns-in_err-type_length_fault : goal.returns-in_err-type_length_fault
+returns-in_err-type_length_fault c =
+    let p = err_from_is_err_and c.from_residual.result c.from_residual.ensures.1 in
+    rw (p.1, p.2) (stop _ _ _ c.in_err-type_length_fault.ensures (refused _) ∙ sym (type-stages c.args.last c.args.announced (c.args.at - 65) c.args.ids.now c.args.at c.args.r.now))
 
-pub type_names_fault-names-requires : goal.type_names_fault-names-requires
-type_names_fault-names-requires c =
-    let a = c.args in
-    names-place a.at a.r.now _ _ _ (none c.type_length_fault-long.ensures c.if-long-ne0.false)
-    (omega arith)
+pub type_names_fault-requires : goal.type_names_fault-requires
+type_names_fault-requires c = names-place c.args.at c.args.r.now _ _ _ (sym c.in_ok-type_length_fault.ensures) (omega arith)
 
-pub returns-then-names-ne0 : goal.returns-then-names-ne0
-returns-then-names-ne0 c =
-    let a = c.args in
-    go _ _ _ (none c.type_length_fault-long.ensures c.if-long-ne0.false)
-    (stop _ _ _ c.type_names_fault-names.ensures c.if-names-ne0.true)
-    ∙ sym (type-stages a.last a.announced (a.at - 65) (kept_ids a.n a.ids.now) a.at a.r.now)
+pub returns-in_err-type_names_fault : goal.returns-in_err-type_names_fault
+returns-in_err-type_names_fault c =
+    let p = err_from_is_err_and c.from_residual-in_err-type_names_fault.result c.from_residual-in_err-type_names_fault.ensures.1 in
+    rw (p.1, p.2) (go _ _ _ (sym c.in_ok-type_length_fault.ensures) (stop _ _ _ c.in_err-type_names_fault.ensures (refused _)) ∙ sym (type-stages c.args.last c.args.announced (c.args.at - 65) c.args.ids.now c.args.at c.args.r.now))
 
 pub slice_bounds-is_kept-end : goal.slice_bounds-is_kept-end
-slice_bounds-is_kept-end c =
-    let a = c.args in
-    rest-place a.at a.r.now _ _ _
-    (none c.type_length_fault-long.ensures c.if-long-ne0.false)
-    (none c.type_names_fault-names.ensures c.if-names-ne0.false) (omega arith)
+slice_bounds-is_kept-end c = rest-place c.args.at c.args.r.now _ _ _ (sym c.in_ok-type_length_fault.ensures) (sym c.in_ok-type_names_fault.ensures) (omega arith)
 
 pub returns-then-is_kept : goal.returns-then-is_kept
 returns-then-is_kept c =
-    let a = c.args in
-    type-repeated a.at a.r.now _ _ _
-    (none c.type_length_fault-long.ensures
-    c.if-long-ne0.false)
-    (none c.type_names_fault-names.ensures c.if-names-ne0.false)
+    type-repeated c.args.at c.args.r.now _ _ _ (sym c.in_ok-type_length_fault.ensures) (sym c.in_ok-type_names_fault.ensures)
     _ c.is_kept.ensures c.if-is_kept.true
 
 pub length_at-requires : goal.length_at-requires
 length_at-requires c =
-    let a = c.args in
-    omega (
-      arith,
-      rest-place a.at a.r.now _ _ _
-          (none c.type_length_fault-long.ensures
-          c.if-long-ne0.false)
-          (none c.type_names_fault-names.ensures c.if-names-ne0.false)
-          (omega arith),
-    )
+    omega (arith, rest-place c.args.at c.args.r.now _ _ _ (sym c.in_ok-type_length_fault.ensures) (sym c.in_ok-type_names_fault.ensures) (omega arith))
 
 pub overflow_sub-length_at : goal.overflow_sub-length_at
 overflow_sub-length_at c =
-    let a = c.args in
-    long-enough a.at a.r.now _ _ _
-    (none c.type_length_fault-long.ensures
-    c.if-long-ne0.false) _ c.length_at.ensures
+    long-enough c.args.at c.args.r.now _ _ _ (sym c.in_ok-type_length_fault.ensures) _ c.length_at.ensures
 
 pub type_rest_fault-requires : goal.type_rest_fault-requires
-type_rest_fault-requires c =
-    let a = c.args in
-    rest-place a.at a.r.now _ _ _
-    (none c.type_length_fault-long.ensures
-    c.if-long-ne0.false)
-    (none c.type_names_fault-names.ensures
-    c.if-names-ne0.false) (omega arith)
+type_rest_fault-requires c = rest-place c.args.at c.args.r.now _ _ _ (sym c.in_ok-type_length_fault.ensures) (sym c.in_ok-type_names_fault.ensures) (omega arith)
 
 pub returns : goal.returns
 returns c =
-    let a = c.args in
-    type-passed a.at a.r.now _ _ _
-    (none c.type_length_fault-long.ensures
-    c.if-long-ne0.false)
-    (none c.type_names_fault-names.ensures
-    c.if-names-ne0.false)
+    type-passed c.args.at c.args.r.now _ _ _ (sym c.in_ok-type_length_fault.ensures) (sym c.in_ok-type_names_fault.ensures)
     _ c.is_kept.ensures _ _ c.if-is_kept.false
     c.length_at.ensures c.type_rest_fault.ensures

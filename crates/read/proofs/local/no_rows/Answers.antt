@@ -6,4 +6,4 @@ use Rattle.read.specs.Table.{table_rows}
 use Rattle.read.proofs.local.no_rows.Goals as goal
 
 pub returns : goal.returns
-returns c = ap (λ (r : Row). replicate table_rows r) c.none-row.ensures
+returns c = ap (λ (r : Row). replicate table_rows r) c.none.ensures

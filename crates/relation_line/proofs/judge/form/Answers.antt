@@ -1,37 +1,21 @@
 -- `relation_line::judge::form` meets its contract. Assumes nothing.
-use mathlib.Core.Path.{sym, ◌∙◌}
-use borrow.Author.Tests.{not-true, not-false}
-use Rattle.relation_line.proofs.Forms.{form-unnamed, form-formed, form-unformed}
-use mathlib.Core.Path.{ap}
-use mathlib.Core.Bool.{not}
+use mathlib.Core.Path.{◌≡◌, sym, ◌∙◌}
+use mathlib.Core.Bool.{true}
+use Rattle.relation_line.specs.Form.{has_name}
+use Rattle.relation_line.proofs.Forms.{verdict-none, verdict-formed, verdict-unformed}
 use Rattle.relation_line.proofs.judge.form.Goals as goal
+use Rattle.relation_line.proofs.judge.form.Goals.{Else-not-is_named}
+
+named : (c : Else-not-is_named) → has_name c.args.line.now ≡ true
+named c = cc
 
 pub returns-then-not-is_named : goal.returns-then-not-is_named
-returns-then-not-is_named c =
-    let n = c in
-    sym
-    (form-unnamed n.args.line.now
-    (sym n.is_named.ensures ∙ not-true n.is_named.result (ap not c.if-not-is_named.true)))
-
-pub is_formed-requires : goal.is_formed-requires
-is_formed-requires c =
-    let n = c in
-    sym n.is_named.ensures ∙ not-false n.is_named.result (ap not c.if-not-is_named.false)
+returns-then-not-is_named c = verdict-none c.args.line.now (cc)
 
 pub returns-then-is_formed : goal.returns-then-is_formed
 returns-then-is_formed c =
-    let f = c in
-    let n = f in
-    sym
-    (form-formed n.args.line.now
-    (sym n.is_named.ensures ∙ not-false n.is_named.result (ap not f.if-not-is_named.false))
-    (sym f.is_formed.ensures ∙ c.if-is_formed.true))
+    verdict-formed c.args.line.now (named (goal.at.returns-then-is_formed c).Else-not-is_named) (sym c.is_formed.ensures ∙ c.if-is_formed.true)
 
 pub returns : goal.returns
 returns c =
-    let f = c in
-    let n = f in
-    sym
-    (form-unformed n.args.line.now
-    (sym n.is_named.ensures ∙ not-false n.is_named.result (ap not f.if-not-is_named.false))
-    (sym f.is_formed.ensures ∙ c.if-is_formed.false))
+    verdict-unformed c.args.line.now (named (goal.at.returns c).Else-not-is_named) (sym c.is_formed.ensures ∙ c.if-is_formed.false)

@@ -2,7 +2,6 @@
 use mathlib.Core.Path.{sym, ◌∙◌}
 use native.Mathlib.Omega.{arith}
 use borrow.Author.Tests.{not-true, not-false}
-use lib.ListN.{length-take}
 use Rattle.relation_line.proofs.Names.{named_other, named-short, named-alone, named-tab}
 use mathlib.Core.Path.{ap}
 use mathlib.Core.Bool.{not}
@@ -10,9 +9,6 @@ use Rattle.relation_line.proofs.judge.is_named.Goals as goal
 
 pub returns-then-line-lt-NAME_END : goal.returns-then-line-lt-NAME_END
 returns-then-line-lt-NAME_END c = named-short c.args.line.now c.if-line-lt-NAME_END.true
-
-pub slice_bounds-same_bytes-end : goal.slice_bounds-same_bytes-end
-slice_bounds-same_bytes-end c = simp length-take (omega arith)
 
 pub returns-then-not-same_bytes : goal.returns-then-not-same_bytes
 returns-then-not-same_bytes c =

@@ -1,24 +1,23 @@
 -- `relation_line::judge::serial_at` meets its contract. Assumes nothing.
 use Prim.Native.Nat.{◌+◌}
-use mathlib.Core.Path.{refl, ◌∙◌}
+use mathlib.Core.Path.{refl, ap, ◌∙◌}
 use native.Mathlib.Omega.{arith}
-use lib.ListN.{drop}
+use lib.ListN.{drop, take}
 use lib.Seq.{take-take}
-use Rattle.laws.proofs.First.{is_zero-eqb}
-use Rattle.laws.proofs.Dates.{serial-asked}
+use Rattle.std.proofs.Common.{is_some}
+use Rattle.metafile.specs.Days.{serial_read}
 use Rattle.laws.proofs.Stages.{slice_is}
+use Rattle.relation_line.proofs.Forms.{serial-there}
 use Rattle.relation_line.proofs.judge.serial_at.Goals as goal
 
 pub returns : goal.returns
 returns c =
-    let r = c in
-    let args = r.args in
-    let s = args.line.now in
-    rw (
-      c.fault.ensures,
-      r.read_serial-day.ensures,
-      r.serial_from.ensures,
-      slice_is args.at (args.at + 38) 38 s refl,
-      take-take 38 38 (drop args.at s) (omega arith),
+    let s = c.args.line.now in
+    c.is_some.ensures
+    ∙ ap is_some c.read_serial.ensures
+    ∙ rw (
+      c.serial_from.ensures,
+      slice_is c.args.at (c.args.at + 38) 38 s refl,
+      take-take 38 38 (drop c.args.at s) (omega arith),
     )
-    (is_zero-eqb _ ∙ serial-asked _)
+    (serial-there _)

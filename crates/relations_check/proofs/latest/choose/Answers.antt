@@ -1,8 +1,6 @@
 -- `relations_check::latest::choose` meets its contract. Assumes nothing.
-use mathlib.Core.Path.{refl, sym, ap, ◌∙◌}
+use mathlib.Core.Path.{refl, sym, ◌∙◌}
 use native.Mathlib.Omega.{arith}
-use Rattle.walk.specs.declared.cursor.Cursor.{Cursor}
-use Rattle.walk.specs.Cursor.{cursor_none}
 use Rattle.walk.proofs.Index.{index-long}
 use Rattle.walk.proofs.Cursors.{there}
 use Rattle.walk.proofs.PlaceLaws.{ended}
@@ -10,10 +8,7 @@ use Rattle.relations_check.proofs.Choosing.{holding-none, chosen_is}
 use Rattle.relations_check.proofs.latest.choose.Goals as goal
 
 pub loop-c-init : goal.loop-c-init
-unfolding cursor_none
-loop-c-init c =
-    let k = c in
-    (k.requires.at, rw k.requires.row_value (holding-none k.args.file.now _ (ap (λ (x : Cursor). x.go) c.none-none.ensures) refl))
+loop-c-init c = (c.requires.at, rw c.requires.row_value (holding-none c.args.file.now))
 
 pub later-best-requires : goal.later-best-requires
 later-best-requires c =

@@ -48,12 +48,14 @@ returns-then-more-n c =
     let l = a in
     let k = l in
     let inv = l.loop-k.invariant in
+    let kept = held_kept _ _ _ _ inv.2 _ _ _ _ a.add-more.ensures c.if-more-n.true in
     record {
       rows_are = k.requires.rows_value;
       begun = k.requires.behind;
       behind = inv.0;
       few = inv.1;
-      held = held_kept _ _ _ _ inv.2 _ _ _ _ a.add-more.ensures c.if-more-n.true;
+      holds = kept.holds;
+      held = ∣ kept ∣₁;
       small = k.requires.file_len_bound;
     }
 
@@ -88,7 +90,8 @@ returns c =
       begun = k.requires.behind;
       behind = inv.0;
       few = inv.1;
-      held = inv.2;
+      holds = inv.2.holds;
+      held = ∣ inv.2 ∣₁;
       small = k.requires.file_len_bound;
     }
 

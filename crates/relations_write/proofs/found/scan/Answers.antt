@@ -1,5 +1,4 @@
--- `relations_write::found::scan` meets its contract. The loop's invariant: the serial number is in no row from `from` up to row
--- k, which begins at `at`. Assumes nothing.
+-- `relations_write::found::scan` meets its contract. Assumes nothing.
 use Prim.Native.Nat.{◌<◌}
 use native.Mathlib.Omega.{arith}
 use lib.ListN.{length}
@@ -41,21 +40,3 @@ pub returns : goal.returns
 returns c =
     let k = c in
     rows-scanned _ _ _ _ (omega (arith, c.loop-k-test.false, k.requires.rows_value)) c.loop-k.invariant.1
-
-pub overflow_add-own : goal.overflow_add-own
-overflow_add-own c = omega (arith, c.row_at-row.ensures.serial-inside)
-
-pub slice_bounds-same_bytes-count : goal.slice_bounds-same_bytes-count
-slice_bounds-same_bytes-count c = omega (arith, c.row_at-row.ensures.serial-inside)
-
-pub slice_bounds-same_bytes-start : goal.slice_bounds-same_bytes-start
-slice_bounds-same_bytes-start c = omega (arith, c.row_at-row.ensures.serial-inside)
-
-pub slice_bounds-same_bytes-end : goal.slice_bounds-same_bytes-end
-slice_bounds-same_bytes-end c = omega (arith, c.row_at-row.ensures.serial-inside)
-
-pub overflow_add-k : goal.overflow_add-k
-overflow_add-k c = omega arith
-
-pub loop-k-smaller : goal.loop-k-smaller
-loop-k-smaller c = omega arith

@@ -1,12 +1,7 @@
--- `search::horspool::common` meets its contract. The loop's invariant: the first `i` bytes agree. The measure is what is left
--- of the mark. Assumes nothing.
-use Prim.Native.Nat.{◌-◌, ◌≤◌}
-use lib.ListN.{length}
+-- `search::horspool::common` meets its contract. The loop's invariant: the stretches before `at` agree. Assumes nothing.
+use Rattle.std.proofs.Common.{◌≡◌, ◌*◌}
 use Rattle.search.proofs.Shifts.{Agreed}
 use Rattle.search.proofs.horspool.common.Given as goal
 
 abbrev pub invariant-loop-i : goal.invariant-loop-i
-invariant-loop-i l = (l.i ≤ length l.mark) × Agreed l.mark l.s l.i
-
-abbrev pub decreases-loop-i : goal.decreases-loop-i
-decreases-loop-i l = length l.mark - l.i
+invariant-loop-i l = (l.at ≡ 16 * l.i) × Agreed l.mark l.s l.at

@@ -1,12 +1,6 @@
--- `search::horspool::common_single` meets its contract. The loop's invariant: the first `i` bytes agree. The measure is what
--- is left of the mark. Assumes nothing.
-use Prim.Native.Nat.{◌-◌, ◌≤◌}
-use lib.ListN.{length}
+-- `search::horspool::common_single` meets its contract. The loop's invariant: the first `i` bytes agree. Assumes nothing.
 use Rattle.search.proofs.Shifts.{Agreed}
 use Rattle.search.proofs.horspool.common_single.Given as goal
 
 abbrev pub invariant-loop-i : goal.invariant-loop-i
-invariant-loop-i l = (l.i ≤ length l.mark) × Agreed l.mark l.s l.i
-
-abbrev pub decreases-loop-i : goal.decreases-loop-i
-decreases-loop-i l = length l.mark - l.i
+invariant-loop-i l = Agreed l.mark l.s l.i

@@ -13,7 +13,7 @@ loop-place-init c =
 pub step-on-requires : goal.step-on-requires
 step-on-requires c =
     let at = c in
-    let args = at.args in record { in_bounds = (omega arith, omega (arith, part_length args.s.now at.loop-place.place)); table_len = (omega arith, at.shifts-table.ensures) }
+    let args = at.args in record { in_bounds = (omega arith, omega (arith, part_length args.s.now at.loop-place.place)); table_value = at.shifts-table.ensures }
 
 pub returns-then-on-eq0 : goal.returns-then-on-eq0
 returns-then-on-eq0 c =

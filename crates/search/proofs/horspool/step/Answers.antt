@@ -14,7 +14,7 @@ further-requires c =
     let start = shifted in
     let m = start.args.mark.now in
     let x = last_of m start.args.s.now in
-    let e = shift-entry m start.args.table.now x shifted.shift-by_last.result start.requires.table_len.1 shifted.shift-by_last.ensures in
+    let e = shift-entry m start.args.table.now x shifted.shift-by_last.result start.requires.table_value shifted.shift-by_last.ensures in
     (omega arith, omega (arith, e, (shift-within m x (omega arith)).1))
 
 pub returns-then-s-last : goal.returns-then-s-last
@@ -23,7 +23,7 @@ returns-then-s-last c =
     let start = shifted in
     let m = start.args.mark.now in
     let s = start.args.s.now in
-    let e = shift-entry m start.args.table.now (last_of m s) shifted.shift-by_last.result start.requires.table_len.1 shifted.shift-by_last.ensures in
+    let e = shift-entry m start.args.table.now (last_of m s) shifted.shift-by_last.result start.requires.table_value shifted.shift-by_last.ensures in
     step-last m s c.further.result (omega arith) c.if-s-last.true (c.further.ensures ∙ ap (λ (a : ℕ). further_from m s a) e)
 
 pub returns-then-n-mark : goal.returns-then-n-mark
@@ -55,9 +55,9 @@ further-requires-2 c =
     let table = start.args.table.now in
     let x = last_of m start.args.s.now in
     let y = get_or start.args.s.now compared.common-n.result 0 in
-    let a = shift-entry m table x shifted.shift-by_last.result start.requires.table_len.1 shifted.shift-by_last.ensures in
-    let b = shift-entry m table y other.shift.result start.requires.table_len.1 other.shift.ensures in
-    (omega arith, omega (arith, a, b, (shift-within m x (omega arith)).1, (shift-within m y (omega arith)).1, c.less-by_other.ensures, c.greater.ensures))
+    let a = shift-entry m table x shifted.shift-by_last.result start.requires.table_value shifted.shift-by_last.ensures in
+    let b = shift-entry m table y other.shift.result start.requires.table_value other.shift.ensures in
+    (omega arith, omega (arith, a, b, (shift-within m x (omega arith)).1, (shift-within m y (omega arith)).1, c.saturating_sub-by_other.ensures, c.max.ensures))
 
 pub returns : goal.returns
 returns c =
@@ -69,8 +69,8 @@ returns c =
     let s = start.args.s.now in
     let table = start.args.table.now in
     let n = compared.common-n.result in
-    let a = shift-entry m table (last_of m s) shifted.shift-by_last.result start.requires.table_len.1 shifted.shift-by_last.ensures in
-    let b = shift-entry m table (get_or s n 0) other.shift.result start.requires.table_len.1 other.shift.ensures in
-    step_other m s n shifted.shift-by_last.result other.shift.result c.less-by_other.result c.greater.result c.further-2.result
+    let a = shift-entry m table (last_of m s) shifted.shift-by_last.result start.requires.table_value shifted.shift-by_last.ensures in
+    let b = shift-entry m table (get_or s n 0) other.shift.result start.requires.table_value other.shift.ensures in
+    step_other m s n shifted.shift-by_last.result other.shift.result c.saturating_sub-by_other.result c.max.result c.further-2.result
     (omega arith) compared.if-s-last.false compared.common-n.ensures other.if-n-mark.false a b
-    c.less-by_other.ensures c.greater.ensures c.further-2.ensures
+    c.saturating_sub-by_other.ensures c.max.ensures c.further-2.ensures

@@ -6,9 +6,8 @@ use Rattle.sums.proofs.words.word.Goals as goal
 
 pub returns : goal.returns
 returns c =
-    let at = c in
-    let b = at.args.b.now in
+    let b = c.args.b.now in
     let is : c.half_word.result + c.half_word-2.result * 4294967296 ≡ word_of b =
-    ap₂ (λ (x y : ℕ). x + y * 4294967296) c.half_word.ensures.0 c.half_word-2.ensures.0 ∙ word-halves b at.requires
+    ap₂ (λ (x y : ℕ). x + y * 4294967296) c.half_word.ensures.0 c.half_word-2.ensures.0 ∙ word-halves b c.requires
     in
-    (is, rw is (words-one b at.requires (λ i. (c.shared_slice_known-1.given i).fits)))
+    (is, rw is (words-one b c.requires (λ i. (c.type_inv.b i).fits)))

@@ -3,11 +3,8 @@ use mathlib.Core.Path.{refl}
 use Rattle.walk.proofs.Cursors.{cursor-behind}
 use Rattle.walk.proofs.cursor.behind.Goals as goal
 
-pub step-s-requires : goal.step-s-requires
-step-s-requires c =
-    let w = c.requires in record { h_value = w.behind.header_is; number_value = w.behind.whole; i_in_bounds = w.behind.few; at_value = w.behind.place_is; indexed = w.indexed }
+pub returns-in-Ok : goal.returns-in-Ok
+returns-in-Ok c = (cursor-behind c.requires.behind c.in-Ok.ensures.step c.in-Ok.ensures.indexed, refl)
 
-pub returns : goal.returns
-returns c =
-    let s = c.step-s.ensures in
-    (cursor-behind c.requires.behind s.0 s.1, refl)
+pub returns-in-Err : goal.returns-in-Err
+returns-in-Err c = (rw c.no_layout.ensures (cursor-behind c.requires.behind c.in-Err.ensures.step c.in-Err.ensures.indexed), refl)

@@ -4,4 +4,4 @@ use Rattle.walk.proofs.cursor.none.Goals as goal
 
 pub returns : goal.returns
 unfolding cursor_none
-returns c = cc c.no_layout-layout.ensures
+returns c = cc c.no_layout.ensures

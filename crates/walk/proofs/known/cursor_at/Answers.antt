@@ -1,11 +1,11 @@
 -- `walk::known::cursor_at` meets its contract. Assumes nothing.
 use Rattle.walk.proofs.Cursors.{known-cursor}
-use Rattle.walk.proofs.PlaceLaws.{chunk-asked}
+use Rattle.walk.proofs.PlaceLaws.{row-inside, row-whole}
 use Rattle.walk.proofs.known.cursor_at.Goals as goal
 
-pub known_chunk-layout-requires : goal.known_chunk-layout-requires
-known_chunk-layout-requires c = let k = c in
-    let asked = chunk-asked k.args.file.now _ _ _ k.requires.behind k.requires.n_in_bounds in record { h_value = asked.0; number_value = asked.1.0; at_in_bounds = asked.1.1.0; file_value = asked.1.1.1 }
+pub known_chunk-requires : goal.known_chunk-requires
+known_chunk-requires c =
+    record { at_in_bounds = row-inside c.requires.behind c.requires.n_in_bounds; file_value = row-whole c.requires.behind c.requires.n_in_bounds }
 
 pub returns : goal.returns
-returns c = let k = c in known-cursor k.requires.behind k.requires.n_in_bounds c.known_chunk-layout.ensures
+returns c = known-cursor c.requires.behind c.requires.n_in_bounds c.known_chunk.ensures

@@ -10,23 +10,20 @@ use Rattle.walk.proofs.Ahead.{candidate-noted, candidate-set}
 use Rattle.walk.proofs.lookahead.candidate.Goals as goal
 use Rattle.walk.proofs.lookahead.candidate.Goals.{After-hash-hash, Start}
 
-hash-is : (c : After-hash-hash) → c.hash-hash.result ≡ hash_of (part c.args.place 38 c.args.file.now)
-hash-is c = hash-given c.args.file.now c.args.place c.hash-hash.result c.hash-hash.ensures
+hash-is : (c : After-hash-hash) → c.hash-hash.result ≡ hash_of (part c.args.place 38 c.args.ahead.from.source.file.now)
+hash-is c = hash-given c.args.ahead.from.source.file.now c.args.place c.hash-hash.result c.hash-hash.ensures
 
 pub covered-requires : goal.covered-requires
 covered-requires c = omega (arith, c.requires.words_len, sized)
 
-pub bounds-places-m : goal.bounds-places-m
-bounds-places-m c = let k = c in omega (arith, k.requires.places_len, k.requires.m_lt_room)
-
 few : (k : Start) → k.args.m < length k.args.places.now
-few k = omega (arith, k.requires.places_len, k.requires.m_lt_room)
+few k = omega arith
 
 pub returns-then-covered : goal.returns-then-covered
 returns-then-covered c =
     let h = c in
     let k = h in
-    candidate-noted k.args.file.now k.args.words.now k.args.places.now k.requires.words_len k.args.place k.args.m (few (goal.at.returns-then-covered c).Start) h.hash-hash.result (hash-is (goal.at.returns-then-covered c).After-hash-hash)
+    candidate-noted k.args.ahead.from.source.file.now k.args.words.now k.args.places.now k.requires.words_len k.args.place k.args.m (few (goal.at.returns-then-covered c).Start) h.hash-hash.result (hash-is (goal.at.returns-then-covered c).After-hash-hash)
     (sym c.covered.ensures ∙ c.if-covered.true)
 
 pub cover-requires : goal.cover-requires
@@ -38,5 +35,5 @@ returns c =
     let h = e in
     let k = h in
     rw c.cover.ensures
-    (candidate-set k.args.file.now k.args.words.now k.args.places.now k.requires.words_len k.args.place k.args.m (few (goal.at.returns c).Start) h.hash-hash.result (hash-is (goal.at.returns c).After-hash-hash)
+    (candidate-set k.args.ahead.from.source.file.now k.args.words.now k.args.places.now k.requires.words_len k.args.place k.args.m (few (goal.at.returns c).Start) h.hash-hash.result (hash-is (goal.at.returns c).After-hash-hash)
     (sym e.covered.ensures ∙ e.if-covered.false))

@@ -4,7 +4,7 @@ use native.Mathlib.Omega.{arith}
 use Rattle.metafile.specs.Bytes.{part}
 use Rattle.index.specs.Index.{hash_of}
 use Rattle.index.proofs.Laws.{sized, hash-given}
-use Rattle.walk.proofs.Ahead.{before-none, before-next, before-less}
+use Rattle.walk.proofs.Ahead.{before-none}
 use Rattle.walk.proofs.lookahead.lesser.Goals as goal
 use Rattle.walk.proofs.lookahead.lesser.Goals.{After-hash}
 
@@ -13,16 +13,6 @@ hash-is c = hash-given c.args.file.now c.args.place c.hash.result c.hash.ensures
 
 pub covered-requires : goal.covered-requires
 covered-requires c = omega (arith, c.requires.words_len, sized)
-
-pub next_same-next-requires : goal.next_same-next-requires
-next_same-next-requires c =
-    let k = c in record { file_len_bound = k.requires.file_len_bound; p_in_bounds = omega (arith, k.requires.place_in_bounds); places_value = k.requires.noted_value }
-
-pub returns-then-next-least : goal.returns-then-next-least
-returns-then-next-least c = (omega (arith, c.if-next-least.true), before-next c.next_same-next.ensures)
-
-pub returns-else-next-least : goal.returns-else-next-least
-returns-else-next-least c = (omega arith, before-less (before-next c.next_same-next.ensures) (omega (arith, c.if-next-least.false)))
 
 pub returns-else-covered : goal.returns-else-covered
 returns-else-covered c =

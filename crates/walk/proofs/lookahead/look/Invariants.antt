@@ -1,12 +1,8 @@
 -- `walk::lookahead::look` meets its contract. Assumes nothing.
-use Prim.Native.Nat.{◌-◌}
-use lib.ListN.{length}
+use mathlib.Core.Path.{◌≡◌}
 use Rattle.walk.proofs.Ahead.{Looking}
 use Rattle.walk.proofs.lookahead.look.Given as goal
 
--- the chunk at p comes next, as number j
-abbrev pub invariant-loop-p : goal.invariant-loop-p
-invariant-loop-p l = Looking l.file l.i l.at l.p l.j l.m l.words l.places
-
-abbrev pub decreases-loop-p : goal.decreases-loop-p
-decreases-loop-p l = length l.file - l.p
+-- the chunk at this place comes next, as this row
+abbrev pub invariant-loop-row : goal.invariant-loop-row
+invariant-loop-row l = (l.row ≡ l.chunks.looked) × Looking l.fn.ahead.from.source.file.now l.fn.ahead.from.row l.fn.ahead.from.at l.at l.chunks.looked l.chunks.noted l.words l.places

@@ -1,5 +1,4 @@
 -- `walk::surveys::note` meets its contract. Assumes nothing.
-use Prim.Native.Nat.{◌-◌, ◌≤◌}
 use mathlib.Core.Path.{◌≡◌}
 use mathlib.Core.List.{◌++◌}
 use lib.ListN.{length, take, drop}
@@ -7,7 +6,4 @@ use Rattle.walk.specs.Survey.{noted}
 use Rattle.walk.proofs.surveys.note.Given as goal
 
 abbrev pub invariant-loop-j : goal.invariant-loop-j
-invariant-loop-j l = (l.j ≤ length l.values) × (l.j ≤ length l.rows) × (length l.values ≡ length l.initial.values) × (noted l.i l.value l.initial.values l.rows ≡ take l.j l.values ++ noted l.i l.value (drop l.j l.values) (drop l.j l.rows))
-
-abbrev pub decreases-loop-j : goal.decreases-loop-j
-decreases-loop-j l = length l.initial.values - l.j
+invariant-loop-j l = (length l.values ≡ length l.initial.values) × (noted l.i l.value l.initial.values l.rows ≡ take l.j l.values ++ noted l.i l.value (drop l.j l.values) (drop l.j l.rows))

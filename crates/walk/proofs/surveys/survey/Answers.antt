@@ -44,9 +44,14 @@ slice_bounds-note-end-in-loop-c c =
 pub overflow_add-c : goal.overflow_add-c
 overflow_add-c c = omega (arith, (here (goal.at.overflow_add-c c).In-loop-c).turn.inside)
 
+pub invariant_of-source : goal.invariant_of-source
+invariant_of-source c =
+    let w = here (goal.at.invariant_of-source c).In-loop-c in record { header_is = w.behind.header_is; whole = w.behind.whole }
+
 pub serial_at-requires : goal.serial_at-requires
 serial_at-requires c =
-    let w = here (goal.at.serial_at-requires c).In-loop-c in record { h_value = w.behind.header_is; number_value = w.behind.whole; at_in_bounds = omega (arith, w.turn.inside); l_value = w.turn.layout_is; number_value_2 = w.turn.whole }
+    let w = here (goal.at.serial_at-requires c).In-loop-c in
+    record { at_in_bounds = omega (arith, w.turn.inside); l_value = w.turn.layout_is; number_value = w.turn.whole }
 
 pub slice_bounds-next-end : goal.slice_bounds-next-end
 slice_bounds-next-end c = sym (index-long c.loop-c.invariant.0.indexed)

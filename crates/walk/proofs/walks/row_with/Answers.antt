@@ -1,9 +1,7 @@
 -- `walk::walks::row_with` meets its contract. Assumes nothing.
 use mathlib.Core.Path.{sym, ◌∙◌}
-use Rattle.metafile.specs.Reading.{rows_of}
 use Rattle.walk.proofs.Index.{index-long}
-use Rattle.walk.proofs.Serials.{known-with}
-use Rattle.walk.proofs.Loops.{seen-passed, numbered-here, numbered-none}
+use Rattle.walk.proofs.Loops.{between_known, between-there, seen-passed, numbered-here, numbered-none}
 use Rattle.walk.proofs.Cursors.{There, there, stops}
 use native.Mathlib.Omega.{arith}
 use Rattle.walk.proofs.walks.row_with.Goals as goal
@@ -17,24 +15,29 @@ own k = there k.requires.at k.requires.go_value
 here : (c : In-loop-c) → There c.args.file.now c.loop-c.c
 here c = there c.loop-c.invariant.0 c.loop-c-test.true
 
+pub invariant_of-source : goal.invariant_of-source
+invariant_of-source c =
+    let w = own (goal.at.invariant_of-source c).Start in record { header_is = w.behind.header_is; whole = w.behind.whole }
+
 pub row_before-before-requires : goal.row_before-before-requires
 row_before-before-requires c =
-    let k = c in
-    let w = own (goal.at.row_before-before-requires c).Start in record { h_value = w.behind.header_is; number_value = w.behind.whole; m_le_i = k.requires.m_le_row; i_in_bounds = w.behind.few; place_value = k.requires.place_value }
+    let w = own (goal.at.row_before-before-requires c).Start in
+    record { m_le_i = c.requires.m_le_row; i_in_bounds = w.behind.few; place_value = c.requires.place_value }
 
-pub returns-then-before : goal.returns-then-before
-returns-then-before c = c.row_before-before.ensures.1 c.if-before.true
+pub returns-then-is_some : goal.returns-then-is_some
+returns-then-is_some c =
+    let w = own (goal.at.returns-then-is_some c).Start in
+    between-there c.args.serial _ _ w.behind.few _ c.row_before-before.ensures w.begun (sym c.is_some.ensures ∙ c.if-is_some.true)
 
 pub loop-c-init : goal.loop-c-init
 loop-c-init c =
-    let r = c in
-    let k = r in
-    (k.requires.at, sym (r.row_before-before.ensures.0 ∙ known-with k.args.serial (rows_of k.args.file.now) _ (own (goal.at.loop-c-init c).Start).behind.few) ∙ c.if-before.false)
+    let w = own (goal.at.loop-c-init c).Start in
+    (c.requires.at, sym (between_known c.args.serial _ _ w.behind.few _ c.row_before-before.ensures) ∙ sym c.is_some.ensures ∙ c.if-is_some.false)
 
 pub serial_at-requires : goal.serial_at-requires
 serial_at-requires c =
-    let k = own (goal.at.serial_at-requires c).Start in
-    let w = here (goal.at.serial_at-requires c).In-loop-c in record { h_value = k.behind.header_is; number_value = k.behind.whole; at_in_bounds = omega (arith, w.turn.inside); l_value = w.turn.layout_is; number_value_2 = w.turn.whole }
+    let w = here (goal.at.serial_at-requires c).In-loop-c in
+    record { at_in_bounds = omega (arith, w.turn.inside); l_value = w.turn.layout_is; number_value = w.turn.whole }
 
 pub shape_of-index-then-same_serial : goal.shape_of-index-then-same_serial
 shape_of-index-then-same_serial c = let l = c in index-long l.loop-c.invariant.0.indexed ∙ sym (index-long l.requires.at.indexed)
