@@ -28,13 +28,13 @@ use Rattle.ancestors.specs.Lists.{is_marked, is_listed, listed_rows, marked_sum,
 -- ---- counts of missing parents
 
 pub small-counts : {file : List ℕ} {rows after : List NotedRow} → AllNoted file rows → length after ≡ length rows → length file ≤ 1073741824
-    → Counted file after → Small after
-small-counts {file} w long small c =
+    → Counted file after → (n : ℕ) → n ≡ length rows → Small n after
+small-counts {file} w long small c n is =
     record {
       few = omega (arith, w.few);
       small = λ i h.
           let here = w.each i (omega arith) in
-          omega (arith, c.each i h, missing_of-few file i, here.count-is, here.inside);
+          omega (arith, c.each i (omega arith), missing_of-few file i, here.count-is, here.inside);
     }
 
 -- ---- the answers
@@ -64,7 +64,7 @@ module _ (file : List ℕ) (row : ℕ) (list : List ℕ) where
           (sym (refusal-next 11 _ _ small ∙ refusal-next 13 _ _ (lt-leb (length (rows_of file)) row (omega arith)) ∙ refusal-first 24 _ _ (lt-ltb 64 (length (rows_of file)) (omega arith))))
           (λ z. omega arith)
 
-      module _ (few : n ≤ 64) (t : List (List Bool)) (w : Tabled file n n t) where
+      module _ (few : n ≤ 64) (t : List ℕ) (w : Tabled file n n t) where
         circular-is : circular_from (goes t) n row ≡ circular file row
         unfolding circular
         circular-is =

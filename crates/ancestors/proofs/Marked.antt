@@ -1,9 +1,9 @@
 -- The rows that are marked (specs/Lists), row by row: the listed ones counted and put into a list, and their missing parents
 -- added up.
---     marked-is        a mark that is compared with Done
---     listed-count     how many are listed
---     listed-room put_in put-out   one row more in the list
---     marked-next marked-most      one row more in the sum
+--     marked-is                       a mark that is compared with Done
+--     listed-count                    how many are listed
+--     listed-room listed-out put_in   one row more in the list
+--     marked-next marked-most         one row more in the sum
 -- Assumes nothing.
 use Rattle.std.proofs.Common.{ℕ, zero, suc, ◌+◌, ◌≤◌, ◌<◌, ◌≡◌, Bool, true, false, cond, List, [], ◌∷◌, ◌++◌, length, get_or, take, set, map, filter, refl, sym, ap, ◌∙◌, arith, add-one, length-append, append-nil}
 use Rattle.std.proofs.Math.Seq.{take-append_seam, take-append-add, get_or-append_seam}
@@ -100,7 +100,7 @@ module _ (marks : List Mark) (rows : List NotedRow) where
   marked-next i b x r e m n = marked-more i ∙ rw (← n, ← marked-is b marks i (rw m at e)) refl
 
   -- of at most 64 rows
-  pub marked-most : Small rows → (n : ℕ) → n ≤ length rows → marked_sum marks rows n ≤ 68719476736
+  pub marked-most : {m : ℕ} → Small m rows → (n : ℕ) → n ≤ m → marked_sum marks rows n ≤ 68719476736
   unfolding marked_sum
   marked-most s n h =
       let f : ℕ → ℕ = λ (i : ℕ). cond (is_marked marks i) (noted_no rows i).missing 0 in

@@ -1,6 +1,6 @@
 -- The rows noted (specs/Noted), and the row with a serial number among them.
---     all_noted                                  all rows of the file
---     compared with-found with-passed with-end   the search for a serial number, row by row
+--     all_noted                         all rows of the file
+--     compared with-found with-passed   the search for a serial number, row by row
 -- Assumes nothing.
 use Rattle.std.proofs.Common.{ℕ, ◌+◌, ◌-◌, ◌≤◌, ◌<◌, ◌≡◌, Bool, true, false, List, length, take, drop, eqb, sym, ap, ◌∙◌, arith, eqb-true, length-take-le, get_or-take}
 use Rattle.std.proofs.Math.Seq.{take-take}

@@ -21,7 +21,7 @@ listed_rows marks row n = join_below n (λ (i : ℕ). cond (is_listed marks row 
 unfoldable pub marked_sum : List Mark → List NotedRow → ℕ → ℕ
 marked_sum marks rows n = sum_below n (λ (i : ℕ). cond (is_marked marks i) (noted_no rows i).missing 0)
 
--- missing parents whose sum is no number over the machine's
-pub record Small (rows : List NotedRow) : Type 0 where
-  pub few : length rows ≤ 64
-  pub small : (i : ℕ) → i < length rows → (noted_no rows i).missing ≤ 1073741824
+-- missing parents of n rows whose sum is no number over the machine's
+pub record Small (n : ℕ) (rows : List NotedRow) : Type 0 where
+  pub few : n ≤ 64
+  pub small : (i : ℕ) → i < n → (noted_no rows i).missing ≤ 1073741824

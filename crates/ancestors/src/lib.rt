@@ -35,7 +35,7 @@ pub fn ancestors(file: &[u8], row: usize, list: &mut [usize]) -> Result<Reached,
         return Err(Refusal::RowsOver64);
     }
     let rows = &mut noted[..n];
-    let mut table = [[false; ROWS]; ROWS];
+    let mut table = [0u8; steps::TABLE];
     steps::put_steps(file, rows, &mut table);
     let Some(reached) = graph::reach(&table, n, row) else {
         return Err(Refusal::Circle);

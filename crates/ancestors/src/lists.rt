@@ -40,8 +40,8 @@ pub fn put_rows(list: &mut [usize], marks: &[Mark], row: usize)
 
 // The missing parents of the rows that are marked, added up.
 pub fn missing(marks: &[Mark], rows: &[NotedRow]) -> usize
-    requires same_length { length rows.now ≡ length marks.now }
-    requires small { Small rows.now }
+    requires marks_in_bounds { length marks.now ≤ length rows.now }
+    requires small { Small (length marks.now) rows.now }
     ensures { result ≡ marked_sum marks.now rows.now (length marks.now) }
 {
     let mut sum: usize = 0;

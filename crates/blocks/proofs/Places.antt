@@ -19,7 +19,7 @@ use Rattle.metafile.specs.Below.{fault_below}
 use Rattle.metafile.specs.Answers.{placed}
 use Rattle.laws.proofs.First.{test, is_zero-eqb}
 use Rattle.laws.proofs.Stages.{unmet, met}
-use Rattle.table.proofs.Labels.{copied}
+use Rattle.lines.proofs.Puts.{copied}
 use Rattle.text.specs.Put.{Put}
 use Rattle.blocks.specs.Blocks.{block, block_count, data_at, block_for, blocks_of, block_of, block_fault, fault_of, unpack_fault}
 
@@ -41,7 +41,7 @@ zeros-put at n b ys h e =
     record {
       end_is = omega (arith, long);
       fits = h;
-      bytes-are = copied at n (replicate n 0) b ys (sym long) e;
+      bytes-are = rw long at (copied at (replicate n 0) b ys e);
     }
 
 -- ---- parts

@@ -19,8 +19,9 @@ use Rattle.laws.proofs.Stages.{fits}
 use Rattle.std.specs.declared.result.Result.{Result}
 use Rattle.std.specs.declared.result.Result.TheVariants.{Ok, Err}
 use Rattle.metafile.specs.declared.refusal.Refusal.{Refusal}
-use Rattle.metafile.specs.Refusals.{number_of, fault_in}
-use Rattle.lines.specs.Parts.{Takes}
+use Rattle.metafile.specs.Refusals.{number_of}
+use Rattle.lines.specs.declared.reader.Refused.{Refused}
+use Rattle.lines.specs.Parts.{fault_taken, Takes}
 use Rattle.lines.proofs.Runs.{takes-stop, takes-fits, takes-go}
 
 size-integrity : size (lines_of (lines_from 16 6)) ≡ 254
@@ -32,7 +33,7 @@ unfolding closing summed unsummed lines lines_from table
 is-closing m = refl
 
 module _ {m s : List ℕ} {at : ℕ} where
-  pub mark-stop : {x : Refusal} → Takes (fixed m ∷ []) at s (Err x) → number_of x ≡ run (closing m) (drop at s)
+  pub mark-stop : {x : Refused} → Takes (fixed m ∷ []) at s (Err x) → number_of x.refusal ≡ run (closing m) (drop at s)
   mark-stop {x = x} e = rw (is-closing m) (takes-stop (fixed m ∷ []) (lines_of (lines_from 16 6) ++ fixed m ∷ []) s at x e)
 
   module _ {p : ℕ} (e : Takes (fixed m ∷ []) at s (Ok p)) where
@@ -44,7 +45,7 @@ module _ {m s : List ℕ} {at : ℕ} where
 
     pub integrity-stop : (x : Refusal) → number_of x ≡ run (lines_of (lines_from 16 6)) (drop p s) → number_of x ≡ run (closing m) (drop at s)
     integrity-stop x g =
-        takes-stop (lines_of (lines_from 16 6)) (fixed m ∷ []) s p x (record { first = g; behind = tt }) ∙ behind
+        takes-stop (lines_of (lines_from 16 6)) (fixed m ∷ []) s p (record { refusal = x; behind = p + 254 }) (record { first = g; behind = omega (arith, size-integrity) }) ∙ behind
 
     module _ (g : 0 ≡ run (lines_of (lines_from 16 6)) (drop p s)) where
       -- the integrity data, as the field reader would answer them
@@ -54,7 +55,7 @@ module _ {m s : List ℕ} {at : ℕ} where
       pub integrity-room : at ≤ length s → p + 254 ≤ length s
       integrity-room h = takes-fits (lines_of (lines_from 16 6)) [] s p (p + 254) integrity-taken (mark-room h)
 
-      pub closing-last : {q : Result ℕ Refusal} → Takes (fixed m ∷ []) (p + 254) s q → fault_in q ≡ run (closing m) (drop at s)
+      pub closing-last : {q : Result ℕ Refused} → Takes (fixed m ∷ []) (p + 254) s q → fault_taken q ≡ run (closing m) (drop at s)
       closing-last l = l.first ∙ takes-go (lines_of (lines_from 16 6)) (fixed m ∷ []) s p (p + 254) integrity-taken ∙ behind
 
 pub closing-fits : (m s : List ℕ) (at : ℕ) → run (closing m) (drop at s) ≡ 0 → at ≤ length s → at + length m + 254 + length m ≤ length s

@@ -23,6 +23,7 @@ use Rattle.std.specs.declared.result.Result.{Result}
 use Rattle.std.specs.declared.result.Result.TheVariants.{Ok, Err}
 use Rattle.metafile.specs.declared.refusal.Refusal.{Refusal}
 use Rattle.metafile.specs.Refusals.{number_of}
+use Rattle.lines.specs.declared.reader.Refused.{Refused}
 use Rattle.lines.specs.Parts.{field_no, Takes}
 use Rattle.lines.proofs.Runs.{takes-stop, takes-fits, takes-go, takes-both, takes_first}
 use Rattle.laws.proofs.First.{test, and_both, is_zero-zero, ⊳-left, ⊳-right, require-true}
@@ -141,7 +142,7 @@ dependency-step n i h =
 
 -- the LF after the dependency count, which the field reader took
 module _ {s : List ℕ} (n : ℕ) where
-  pub dependencies-lf : {x : Refusal} → Takes (field_no 8 2 ∷ []) 567 s (Err x) → number_of x ≡ run (lf ∷ dependency_fields n) (drop 567 s)
+  pub dependencies-lf : {x : Refused} → Takes (field_no 8 2 ∷ []) 567 s (Err x) → number_of x.refusal ≡ run (lf ∷ dependency_fields n) (drop 567 s)
   unfolding field_no lines
   dependencies-lf {x = x} e = takes-stop (field_no 8 2 ∷ []) (dependency_fields n) s 567 x e
 
@@ -159,15 +160,16 @@ unfolding lines lines_from line_no table
 dependency-is = refl
 
 module _ {s : List ℕ} {at : ℕ} where
-  pub serial-stop : {x : Refusal} → Takes (lines_of (line_no 9 ∷ [])) at s (Err x) → Takes (lines_of (lines_from 9 2)) at s (Err x)
-  serial-stop {x = x} e = rw dependency-is (takes_first (lines_of (line_no 9 ∷ [])) (lines_of (line_no 10 ∷ [])) s at x e)
+  pub serial-stop : {x y : Refused} → Takes (lines_of (line_no 9 ∷ [])) at s (Err x) → y.refusal ≡ x.refusal → y.behind ≡ at + 344 → Takes (lines_of (lines_from 9 2)) at s (Err y)
+  unfolding lines lines_from line_no table
+  serial-stop {x = x} {y = y} e f w = takes_first (lines_of (line_no 9 ∷ [])) (lines_of (line_no 10 ∷ [])) s at x y e f w
 
-  pub serial-go : {p : ℕ} → Takes (lines_of (line_no 9 ∷ [])) at s (Ok p) → {q : Result ℕ Refusal} → Takes (lines_of (line_no 10 ∷ [])) p s q → Takes (lines_of (lines_from 9 2)) at s q
+  pub serial-go : {p : ℕ} → Takes (lines_of (line_no 9 ∷ [])) at s (Ok p) → {q : Result ℕ Refused} → Takes (lines_of (line_no 10 ∷ [])) p s q → Takes (lines_of (lines_from 9 2)) at s q
   serial-go {p = p} e {q = q} f = rw dependency-is (takes-both (lines_of (line_no 9 ∷ [])) (lines_of (line_no 10 ∷ [])) s at p e q f)
 
 -- a dependency at a place, i of n passed
 module _ {s : List ℕ} {all at n i : ℕ} (h : i < n) (total : all ≡ run (dependency_fields (n - i)) (drop at s)) where
-  pub dependencies-stop : {x : Refusal} → Takes (lines_of (lines_from 9 2)) at s (Err x) → number_of x ≡ all
+  pub dependencies-stop : {x : Refused} → Takes (lines_of (lines_from 9 2)) at s (Err x) → number_of x.refusal ≡ all
   dependencies-stop {x = x} e =
       takes-stop (lines_of (lines_from 9 2)) (dependency_fields (n - (i + 1))) s at x e
       ∙ sym (total ∙ ap (λ fs. run fs (drop at s)) (dependency-step n i h))

@@ -11,6 +11,7 @@ ghost use Rattle.chunk.specs.Layout.{Numbers, HeadOf};
 
 use crate::counts::count_at;
 use crate::parts::Head;
+use lines::Refused;
 use lines::reader::END;
 use metafile::Refusal;
 use table::{names, numbers, places};
@@ -83,12 +84,17 @@ fn numbers_fault(s: &[u8], n: usize, announced: usize, header: usize) -> Result<
 }
 
 // A dependency: its serial number and its sub-format.
-fn dependency(s: &[u8], at: usize) -> Result<usize, Refusal>
+fn dependency(s: &[u8], at: usize) -> Result<usize, Refused>
     requires { at ≤ length s.now }
     ensures { Takes (lines_of (lines_from 9 2)) at s.now result }
 {
-    let serial = lines::read_line(s, at, numbers::DEPENDENCY_SERIAL)?;
-    lines::read_line(s, serial, numbers::DEPENDENCY_SUB_FORMAT)
+    match lines::read_line(s, at, numbers::DEPENDENCY_SERIAL) {
+        Ok(serial) => lines::read_line(s, serial, numbers::DEPENDENCY_SUB_FORMAT),
+        Err(serial) => Err(Refused {
+            behind: at + places::DEPENDENCY_BYTES,
+            ..serial
+        }),
+    }
 }
 
 // The LF after the dependency count, and n dependencies, two lines each.

@@ -1,18 +1,31 @@
 -- What the functions do to the marks (specs/Graph): a law for each place of the code, over lists and numbers.
+--     goes-there goes-not                          the byte that the table has for a row and another
 --     on-circle visits list-given row_done         `standing`: by the row's mark; before its list, and behind it
 --     list-next standing-given list-more           `listed`: a row that isn't asked, before a row is asked, behind it
 --     begun reached                                `reach`: before `standing` is asked, and behind it
 -- A row becomes done when all that it goes to are. They are closed under steps without it, so it doesn't reach itself.
 -- Assumes nothing.
-use Rattle.std.proofs.Common.{ℕ, zero, suc, ◌+◌, ◌≤◌, ◌<◌, ◌≡◌, Bool, true, false, List, [], ◌∷◌, length, set, replicate, refl, sym, ◌∙◌, arith, length-set, eqb, eqb-true, get_or-set_same, get_or-set_other, below_more}
+use Rattle.std.proofs.Common.{ℕ, zero, suc, ◌+◌, ◌*◌, ◌≤◌, ◌<◌, ◌≡◌, Bool, true, false, List, [], ◌∷◌, length, set, replicate, refl, sym, ap, ◌∙◌, arith, length-set, get_or, eqb, eqb-true, get_or-set_same, get_or-set_other, below_more}
 use Rattle.std.proofs.lemmas.List.{get_or-replicate}
 use Rattle.std.proofs.lemmas.Bool.{eqb-false}
+use Rattle.metafile.specs.Bytes.{non_zero}
 use Rattle.metafile.specs.Closure.{by_way, within, circular_from}
-use Rattle.laws.proofs.First.{test, untrue}
+use mathlib.Core.Bool.{not}
+use Rattle.laws.proofs.First.{test, untrue, is_zero-is, is_zero-not}
 use Rattle.laws.proofs.Closure.{way-inside, within-own, within-way, within-cases, way-from, way-to, circle-in, circle-out}
 use Rattle.graph.specs.declared.Mark.{Mark}
 use Rattle.graph.specs.declared.Mark.TheVariants.{Unvisited, OnPath, Done}
 use Rattle.graph.specs.Graph.{goes, mark, is_done, unvisited, Sound, Grown, StandingGiven, ListGiven, RowDone, ListDone, Reached}
+
+-- ---- the table
+
+pub goes-there : (t : List ℕ) (a b : ℕ) → (get_or t (a * 64 + b) 0 ≡ 0 → ⊥) → goes t a b ≡ true
+unfolding goes non_zero
+goes-there t a b ne = ap not (is_zero-not (get_or t (a * 64 + b) 0) ne)
+
+pub goes-not : (t : List ℕ) (a b : ℕ) → get_or t (a * 64 + b) 0 ≡ 0 → goes t a b ≡ false
+unfolding goes non_zero
+goes-not t a b e = ap not (is_zero-is (get_or t (a * 64 + b) 0) e)
 
 -- ---- a mark is written
 
@@ -58,7 +71,7 @@ apart : (m : List Mark) (i a : ℕ) (x : Mark) → mark m a ≡ x → (mark m i 
 apart m i a x e ne s = ne (rw s at e)
 
 -- a row that isn't done may be marked; as done, where all that it goes to are
-sound-set : {t : List (List Bool)} {n : ℕ} {m : List Mark} (row : ℕ) (v : Mark) → Sound t n m → n ≤ 64 → row < n → (mark m row ≡ Done → ⊥)
+sound-set : {t : List ℕ} {n : ℕ} {m : List Mark} (row : ℕ) (v : Mark) → Sound t n m → n ≤ 64 → row < n → (mark m row ≡ Done → ⊥)
     → (v ≡ Done → (b : ℕ) → b < n → goes t row b ≡ true → mark m b ≡ Done) → Sound t n (set m row v)
 sound-set {t} {n} {m} row v s few inside ne all =
     let at : row < length m = omega (arith, s.long) in
@@ -82,7 +95,7 @@ sound-set {t} {n} {m} row v s few inside ne all =
 -- ---- Grown
 
 -- first from a row, then from one that it goes to
-grown-on : (t : List (List Bool)) (n row b : ℕ) (m m' m'' : List Mark) → b < n → goes t row b ≡ true
+grown-on : (t : List ℕ) (n row b : ℕ) (m m' m'' : List Mark) → b < n → goes t row b ≡ true
     → Grown t n row m m' → Grown t n b m' m'' → Grown t n row m m''
 grown-on t n row b m m' m'' h s g k =
     record {
@@ -100,7 +113,7 @@ grown-on t n row b m m' m'' h s g k =
 
 -- ---- `standing`
 
-module _ {t : List (List Bool)} {n row : ℕ} {m : List Mark} (s : StandingGiven t n row m) where
+module _ {t : List ℕ} {n row : ℕ} {m : List Mark} (s : StandingGiven t n row m) where
   -- the path comes back to the row
   pub on-circle : mark m row ≡ OnPath → circular_from (goes t) n row ≡ true
   on-circle e =
@@ -119,6 +132,7 @@ module _ {t : List (List Bool)} {n row : ℕ} {m : List Mark} (s : StandingGiven
         let g = s.given in
         record {
           given = record {
+            table = g.table;
             rows = g.rows;
             inside = g.inside;
             sound = sound-set row OnPath g.sound g.rows g.inside (λ e. cc) (λ e. cc);
@@ -159,7 +173,7 @@ module _ {t : List (List Bool)} {n row : ℕ} {m : List Mark} (s : StandingGiven
 
 -- ---- `listed`
 
-module _ {t : List (List Bool)} {n row : ℕ} {m : List Mark} (s : ListGiven t n row m) {b : ℕ} {m' : List Mark} (l : ListDone t n row b m m') where
+module _ {t : List ℕ} {n row : ℕ} {m : List Mark} (s : ListGiven t n row m) {b : ℕ} {m' : List Mark} (l : ListDone t n row b m m') where
   -- the row doesn't go to row b
   pub list-next : goes t row b ≡ false → ListDone t n row (b + 1) m m'
   list-next f =
@@ -173,7 +187,7 @@ module _ {t : List (List Bool)} {n row : ℕ} {m : List Mark} (s : ListGiven t n
     pub standing-given : StandingGiven t n b m'
     standing-given =
         record {
-          given = record { rows = s.given.rows; inside = h; sound = l.sound };
+          given = record { table = s.given.table; rows = s.given.rows; inside = h; sound = l.sound };
           path = λ p k e. way-to (goes t) n p row b s.given.inside (s.path p k (l.grown.path-only p e)) g;
         }
 
@@ -192,10 +206,11 @@ module _ {t : List (List Bool)} {n row : ℕ} {m : List Mark} (s : ListGiven t n
 blank : (a : ℕ) → a < 64 → mark (replicate 64 Unvisited) a ≡ Unvisited
 blank a h = get_or-replicate 64 a Unvisited Unvisited h
 
-pub begun : (t : List (List Bool)) (n row : ℕ) → n ≤ 64 → row < n → StandingGiven t n row (replicate 64 Unvisited)
-begun t n row few inside =
+pub begun : (t : List ℕ) (n row : ℕ) → length t ≡ 4096 → n ≤ 64 → row < n → StandingGiven t n row (replicate 64 Unvisited)
+begun t n row wide few inside =
     record {
       given = record {
+        table = wide;
         rows = few;
         inside = inside;
         sound = record {
@@ -207,7 +222,7 @@ begun t n row few inside =
       path = λ p h e. let new = blank p (omega arith) in cc;
     }
 
-module _ {t : List (List Bool)} {n row : ℕ} {m : List Mark} (few : n ≤ 64) (inside : row < n) (d : RowDone t n row (replicate 64 Unvisited) m) where
+module _ {t : List ℕ} {n row : ℕ} {m : List Mark} (few : n ≤ 64) (inside : row < n) (d : RowDone t n row (replicate 64 Unvisited) m) where
   done-within : (a : ℕ) → a < n → within (goes t) n row a ≡ true → mark m a ≡ Done
   done-within a h w =
       within-cases (goes t) n row a w

@@ -1,7 +1,7 @@
 -- What the writer's runs need of the definitions: values one behind the other, bytes put behind bytes, digits, closing.
 --     value_room value-next     the value of the next line, and the others
 --     formed-bad formed-good    the values judged, one line on
---     placed-next placed-byte          bytes put behind bytes
+--     placed-next placed-byte copied   bytes put behind bytes
 --     line-put lines-put ..     a line and the lines behind it put
 --     last-put digit-put        the last byte, or digit, put before the others
 --     closing-..                the closing put piece by piece
@@ -11,6 +11,7 @@ use mathlib.Core.Bool.{true, false, ◌&&◌}
 use mathlib.Core.Path.{◌≡◌, refl, sym, ap, ◌∙◌}
 use mathlib.Core.List.{List, [], ◌∷◌, ◌++◌, append_assoc, append-nil}
 use native.Mathlib.Omega.{arith}
+use borrow.Rule.Slice.PartMut.{put_mid}
 use native.Mathlib.Nat.{le_of_eq}
 use lib.Dec.{eqb}
 use lib.ListN.{length, take, drop, set, length-append, length-take, length-drop, take-append-drop}
@@ -28,6 +29,7 @@ use Rattle.laws.proofs.Table.{kind-local, size-split, write-split, lefts}
 use Rattle.laws.proofs.Loops.{placed-length, placed-placed, placed-nothing, put-more}
 use Rattle.laws.proofs.Closed.{fixed-formed}
 use Rattle.laws.proofs.Distances.{lines}
+use Rattle.table.proofs.Labels.{copied as copied-long}
 use Rattle.lines.specs.Values.{chopped, values_size, closing_for}
 use Rattle.lines.proofs.Runs.{lines-first, lines_none, lines_of-cons}
 
@@ -102,6 +104,10 @@ placed-byte q x c h =
     let z : q + 0 ≡ q = omega arith in
     let more = put-more q 0 (x ∷ []) c (omega arith) (omega arith) in
     rw (placed-nothing q c, z) at more
+
+-- bytes copied into the part of a buffer that starts at a place and is as long
+pub copied : (at : ℕ) (s b ys : List ℕ) → ys ≡ s → put_mid at (at + length s - at) b ys ≡ placed at s b
+copied at s b ys e = copied-long at (length s) s b ys refl e
 
 -- ---- a line, and the lines behind it
 

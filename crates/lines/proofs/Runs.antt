@@ -7,7 +7,7 @@
 -- Assumes nothing.
 use Prim.Native.Nat.{ℕ, suc, ◌+◌, ◌-◌, ◌≤◌, ◌<◌}
 use mathlib.Core.Bool.{Bool}
-use mathlib.Core.Path.{◌≡◌, refl, sym, ◌∙◌}
+use mathlib.Core.Path.{◌≡◌, refl, sym, ap, ◌∙◌}
 use mathlib.Core.List.{List, [], ◌∷◌, ◌++◌}
 use native.Mathlib.Omega.{arith}
 use native.Mathlib.Numerals.{add-one}
@@ -17,7 +17,7 @@ use Rattle.metafile.specs.Bytes.{require, starts}
 use Rattle.metafile.specs.Lines.{Field, fixed, value, Line, lf, opened, lines_of, width, field_width, fixed_fault, kind_fault, fault, size, run, checksum, table}
 use Rattle.table.specs.declared.Line.{Line as CodeLine}
 use Rattle.table.specs.Codes.{line_no, code_no, lines_from}
-use Rattle.table.proofs.Lines.{label-long, width_is}
+use Rattle.table.proofs.Lines.{label-fits, label-long, width_is, width_small}
 use Rattle.laws.proofs.First.{⊳-stop, ⊳-go}
 use Rattle.laws.proofs.Stages.{run-one as run-field}
 use Rattle.laws.proofs.Table.{field-long, run-split, run-enough, size-split}
@@ -26,8 +26,9 @@ use Rattle.std.specs.declared.result.Result.{Result}
 use Rattle.std.specs.declared.result.Result.TheVariants.{Ok, Err}
 use Rattle.metafile.specs.declared.refusal.Refusal.{Refusal}
 use Rattle.metafile.specs.declared.refusal.Refusal.TheVariants.{Title, Tape, MiniMark, Short, Differs, Form, Length, ShortId, KnownSerial, RowsFull, OverLimit, NotClean, NoRow, NoDependency, ZeroInMark, Open, Multichunk, NoRoom, NotRelations, Heading, Total, Circle, RowsOver64, BlockSum, BlockNumber, BlockUse}
-use Rattle.metafile.specs.Refusals.{number_of, fault_in}
-use Rattle.lines.specs.Parts.{field_no, Takes}
+use Rattle.metafile.specs.Refusals.{number_of}
+use Rattle.lines.specs.declared.reader.Refused.{Refused}
+use Rattle.lines.specs.Parts.{field_no, fault_taken, behind_taken, Takes}
 
 -- ---- LF and mark
 
@@ -71,15 +72,12 @@ pub size-one : (f : Field) → size (f ∷ []) ≡ field_width f
 unfolding size
 size-one f = omega arith
 
-pub taken-fault : (f : Field) (at : ℕ) (s : List ℕ) (r : Result ℕ Refusal) → Takes (f ∷ []) at s r → fault_in r ≡ fault f (drop at s)
+pub taken-fault : (f : Field) (at : ℕ) (s : List ℕ) (r : Result ℕ Refused) → Takes (f ∷ []) at s r → fault_taken r ≡ fault f (drop at s)
 taken-fault f at s r e = e.first ∙ sym (run-one f (drop at s))
 
--- one field: taken, or refused
-pub taken-one : (f : Field) (at p : ℕ) (s : List ℕ) → 0 ≡ fault f (drop at s) → p ≡ at + field_width f → Takes (f ∷ []) at s (Ok p)
-taken-one f at p s e w = record { first = e ∙ run-one f (drop at s); behind = omega (arith, size-one f) }
-
-pub taken-not : (f : Field) (at : ℕ) (s : List ℕ) (x : Refusal) → number_of x ≡ fault f (drop at s) → Takes (f ∷ []) at s (Err x)
-taken-not f at s x e = record { first = e ∙ run-one f (drop at s); behind = tt }
+-- one field, refused or not
+pub taken-one : (f : Field) (at : ℕ) (s : List ℕ) (r : Result ℕ Refused) → fault_taken r ≡ fault f (drop at s) → behind_taken r ≡ at + field_width f → Takes (f ∷ []) at s r
+taken-one f at s r e w = record { first = e ∙ run-one f (drop at s); behind = omega (arith, size-one f) }
 
 -- a refusal has a number
 pub refused : (x : Refusal) → number_of x ≡ 0 → ⊥
@@ -124,7 +122,7 @@ pub field_end : (i : ℕ) → field_no i 2 ≡ lf
 unfolding field_no opened
 field_end i = refl
 
-pub value-fault : (i at : ℕ) (s : List ℕ) (r : Result ℕ Refusal) → Takes (field_no i 1 ∷ []) at s r → fault_in r ≡ kind_fault (line_no i).kind (drop at s)
+pub value-fault : (i at : ℕ) (s : List ℕ) (r : Result ℕ Refused) → Takes (field_no i 1 ∷ []) at s r → fault_taken r ≡ kind_fault (line_no i).kind (drop at s)
 unfolding field_no opened fault
 value-fault i at s r e = taken-fault (field_no i 1) at s r e
 
@@ -133,37 +131,28 @@ unfolding field_no opened size field_width
 value-wide i = omega arith
 
 -- a field of line i, as the code reads it
-module _ (i p at q : ℕ) (s : List ℕ) where
-  pub label-taken : p ≡ 0 → 0 ≡ fault (fixed (line_no i).label) (drop at s) → q ≡ at + length (line_no i).label → Takes (field_no i p ∷ []) at s (Ok q)
+module _ (i p at : ℕ) (s : List ℕ) (r : Result ℕ Refused) where
+  pub label-taken : p ≡ 0 → fault_taken r ≡ fault (fixed (line_no i).label) (drop at s) → behind_taken r ≡ at + length (line_no i).label → Takes (field_no i p ∷ []) at s r
   unfolding field_width
-  label-taken e f w = rw (e, field-label i) (taken-one (fixed (line_no i).label) at q s f w)
+  label-taken e f w = rw (e, field-label i) (taken-one (fixed (line_no i).label) at s r f w)
 
-  pub value_taken : p ≡ 1 → 0 ≡ kind_fault (line_no i).kind (drop at s) → q ≡ at + width (line_no i).kind → Takes (field_no i p ∷ []) at s (Ok q)
+  pub value_taken : p ≡ 1 → fault_taken r ≡ kind_fault (line_no i).kind (drop at s) → behind_taken r ≡ at + width (line_no i).kind → Takes (field_no i p ∷ []) at s r
   unfolding field_width fault
-  value_taken e f w = rw (e, field-value i) (taken-one (value (line_no i).kind) at q s f w)
+  value_taken e f w = rw (e, field-value i) (taken-one (value (line_no i).kind) at s r f w)
 
-  pub end-taken : (p ≡ 0 → ⊥) → (p ≡ 1 → ⊥) → p < 3 → 0 ≡ fault lf (drop at s) → q ≡ at + 1 → Takes (field_no i p ∷ []) at s (Ok q)
+  pub end-taken : (p ≡ 0 → ⊥) → (p ≡ 1 → ⊥) → p < 3 → fault_taken r ≡ fault lf (drop at s) → behind_taken r ≡ at + 1 → Takes (field_no i p ∷ []) at s r
   unfolding field_width lf
   end-taken a b h f w =
       let e : p ≡ 2 = omega arith in
-      rw (e, field_end i) (taken-one lf at q s f w)
-
-module _ (i p at : ℕ) (s : List ℕ) (x : Refusal) where
-  pub label-refused : p ≡ 0 → number_of x ≡ fault (fixed (line_no i).label) (drop at s) → Takes (field_no i p ∷ []) at s (Err x)
-  label-refused e f = rw (e, field-label i) (taken-not (fixed (line_no i).label) at s x f)
-
-  pub value-refused : p ≡ 1 → number_of x ≡ kind_fault (line_no i).kind (drop at s) → Takes (field_no i p ∷ []) at s (Err x)
-  unfolding fault
-  value-refused e f = rw (e, field-value i) (taken-not (value (line_no i).kind) at s x f)
-
-  pub end-refused : (p ≡ 0 → ⊥) → (p ≡ 1 → ⊥) → p < 3 → number_of x ≡ fault lf (drop at s) → Takes (field_no i p ∷ []) at s (Err x)
-  end-refused a b h f =
-      let e : p ≡ 2 = omega arith in
-      rw (e, field_end i) (taken-not lf at s x f)
+      rw (e, field_end i) (taken-one lf at s r f w)
 
 -- ---- the bytes of a line
 
 module _ (i : ℕ) (h : i < 24) where
+  pub opened-small : size (opened (line_no i)) ≤ 768
+  unfolding size opened field_width
+  opened-small = omega (arith, label-fits i h, label-long i h, width_is i h, width_small i h)
+
   pub line-size : size (lines_of (line_no i ∷ [])) ≡ size (opened (line_no i)) + 1
   unfolding size lines_of opened lf field_width
   line-size = omega arith
@@ -182,12 +171,12 @@ module _ (i : ℕ) (h : i < 24) where
 -- ---- a stretch in two parts
 
 module _ (a b : List Field) (s : List ℕ) (at : ℕ) where
-  -- the first part is refused
-  pub takes-stop : (x : Refusal) → Takes a at s (Err x) → number_of x ≡ run (a ++ b) (drop at s)
-  takes-stop x e = rw (run-split a b (drop at s), ← e.first) (sym (⊳-stop (number_of x) _ (refused x)))
+  -- the first part is refused; the position answered is that behind both
+  pub takes-stop : (x : Refused) → Takes a at s (Err x) → number_of x.refusal ≡ run (a ++ b) (drop at s)
+  takes-stop x e = rw (run-split a b (drop at s), ← e.first) (sym (⊳-stop (number_of x.refusal) _ (refused x.refusal)))
 
-  pub takes_first : (x : Refusal) → Takes a at s (Err x) → Takes (a ++ b) at s (Err x)
-  takes_first x e = record { first = takes-stop x e; behind = tt }
+  pub takes_first : (x y : Refused) → Takes a at s (Err x) → y.refusal ≡ x.refusal → y.behind ≡ at + size (a ++ b) → Takes (a ++ b) at s (Err y)
+  takes_first x y e f w = record { first = ap number_of f ∙ takes-stop x e; behind = w }
 
   module _ (p : ℕ) (e : Takes a at s (Ok p)) where
     pub takes-fits : at ≤ length s → p ≤ length s
@@ -199,26 +188,28 @@ module _ (a b : List Field) (s : List ℕ) (at : ℕ) where
     takes-go = rw (run-split a b (drop at s), ← e.first, ⊳-go 0 _ refl, drop-drop (size a) at s, ← e.behind)
 
     -- the second part is read behind the first
-    pub takes-both : (q : Result ℕ Refusal) → Takes b p s q → Takes (a ++ b) at s q
-    takes-both (Ok q) f = record { first = f.first ∙ takes-go; behind = omega (arith, e.behind, f.behind, size-split a b) }
-    takes-both (Err x) f = record { first = f.first ∙ takes-go; behind = tt }
+    pub takes-both : (q : Result ℕ Refused) → Takes b p s q → Takes (a ++ b) at s q
+    takes-both q f = record { first = f.first ∙ takes-go; behind = omega (arith, e.behind, f.behind, size-split a b) }
 
 -- ---- a line
 
 module _ (i : ℕ) (s : List ℕ) (at : ℕ) where
-  pub opened-first : (x : Refusal) → Takes (field_no i 0 ∷ []) at s (Err x) → Takes (opened (line_no i)) at s (Err x)
+  pub opened-first : (x y : Refused) → Takes (field_no i 0 ∷ []) at s (Err x) → y.refusal ≡ x.refusal → y.behind ≡ at + size (opened (line_no i)) → Takes (opened (line_no i)) at s (Err y)
   unfolding field_no opened
-  opened-first x e = takes_first (field_no i 0 ∷ []) (field_no i 1 ∷ []) s at x e
+  opened-first x y e f w = takes_first (field_no i 0 ∷ []) (field_no i 1 ∷ []) s at x y e f w
 
-  pub opened_both : (p : ℕ) (q : Result ℕ Refusal) → Takes (field_no i 0 ∷ []) at s (Ok p) → Takes (field_no i 1 ∷ []) p s q → Takes (opened (line_no i)) at s q
+  pub opened_both : (p : ℕ) (q : Result ℕ Refused) → Takes (field_no i 0 ∷ []) at s (Ok p) → Takes (field_no i 1 ∷ []) p s q → Takes (opened (line_no i)) at s q
   unfolding field_no opened
   opened_both p q e f = takes-both (field_no i 0 ∷ []) (field_no i 1 ∷ []) s at p e q f
 
-  pub line_first : (x : Refusal) → Takes (opened (line_no i)) at s (Err x) → Takes (lines_of (line_no i ∷ [])) at s (Err x)
+  line-stopped : (x y : Refused) → Takes (opened (line_no i)) at s (Err x) → y.refusal ≡ x.refusal → y.behind ≡ at + size (lines_of (line_no i ∷ [])) → Takes (lines_of (line_no i ∷ [])) at s (Err y)
   unfolding lines_of
-  line_first x e = takes_first (opened (line_no i)) (lf ∷ []) s at x e
+  line-stopped x y e f w = takes_first (opened (line_no i)) (lf ∷ []) s at x y e f w
 
-  pub line-both : (p : ℕ) (q : Result ℕ Refusal) → Takes (opened (line_no i)) at s (Ok p) → Takes (field_no i 2 ∷ []) p s q → Takes (lines_of (line_no i ∷ [])) at s q
+  pub line_first : i < 24 → (x y : Refused) → Takes (opened (line_no i)) at s (Err x) → y.refusal ≡ x.refusal → y.behind ≡ x.behind + 1 → Takes (lines_of (line_no i ∷ [])) at s (Err y)
+  line_first h x y e f w = line-stopped x y e f (omega (arith, e.behind, line-size i h))
+
+  pub line-both : (p : ℕ) (q : Result ℕ Refused) → Takes (opened (line_no i)) at s (Ok p) → Takes (field_no i 2 ∷ []) p s q → Takes (lines_of (line_no i ∷ [])) at s q
   unfolding field_no opened lines_of
   line-both p q e f = takes-both (opened (line_no i)) (lf ∷ []) s at p e q f
 
@@ -259,7 +250,7 @@ module _ (s : List ℕ) (whole at i end : ℕ) (e : whole ≡ run (lines_of (lin
     unfolding others
     here = rw (lines-first i end h l) (lines_of-cons (line_no i) (lines_from (i + 1) (end - (i + 1))))
 
-    pub lines-stop : (x : Refusal) → Takes (lines_of (line_no i ∷ [])) at s (Err x) → number_of x ≡ whole
+    pub lines-stop : (x : Refused) → Takes (lines_of (line_no i ∷ [])) at s (Err x) → number_of x.refusal ≡ whole
     lines-stop x f = takes-stop (lines_of (line_no i ∷ [])) others s at x f ∙ sym (e ∙ rw here)
 
     pub lines_next : (p : ℕ) → Takes (lines_of (line_no i ∷ [])) at s (Ok p) → whole ≡ run (lines_of (lines_from (i + 1) (end - (i + 1)))) (drop p s)

@@ -14,7 +14,7 @@ use Rattle.table.specs.Codes.{line_no, codes, code_no, lines_from}
 use Rattle.std.specs.declared.result.Result.{Result}
 use Rattle.std.specs.declared.result.Result.TheVariants.{Ok, Err}
 use Rattle.std.specs.Result.{is_ok}
-use Rattle.metafile.specs.declared.refusal.Refusal.{Refusal}
+use Rattle.lines.specs.declared.reader.Refused.{Refused}
 use Rattle.lines.specs.Parts.{Takes}
 use Rattle.lines.proofs.Runs.{opened-size, line-size, takes-go, lines-one, lines_of-cons}
 
@@ -22,7 +22,7 @@ pub bytes_of : (i : ℕ) → i < 24 → size (lines_of (line_no i ∷ [])) ≡ (
 bytes_of i h = omega (arith, line-size i h, opened-size i h (code_no i) refl)
 
 -- a line that the code takes, and n lines behind it
-pub clean_line : (i n p q : ℕ) (s : List ℕ) (r : Result ℕ Refusal) → i < 24 → q ≡ p + size (lines_of (line_no i ∷ [])) → Takes (lines_of (line_no i ∷ [])) p s r → is_ok r ≡ true
+pub clean_line : (i n p q : ℕ) (s : List ℕ) (r : Result ℕ Refused) → i < 24 → q ≡ p + size (lines_of (line_no i ∷ [])) → Takes (lines_of (line_no i ∷ [])) p s r → is_ok r ≡ true
     → 0 ≡ run (lines_of (lines_from (i + 1) n)) (drop q s) → 0 ≡ run (lines_of (lines_from i (suc n))) (drop p s)
 clean_line i n p q s (Err x) h w e z next = absurd (true≢false (sym z))
 clean_line i n p q s (Ok b) h w e z next =

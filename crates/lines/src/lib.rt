@@ -17,7 +17,7 @@ mod stretches;
 pub mod words;
 mod write;
 
-pub use reader::{Reader, read_field, read_fixed};
+pub use reader::{Reader, Refused, read_field, read_fixed};
 pub use run::{lines_fault, read_line, read_opened};
 pub use stretches::{dependency_count_fault, head_lines_fault, integrity_fault};
 pub use words::{begins_mini, is_word};

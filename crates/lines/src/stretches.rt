@@ -5,7 +5,9 @@ ghost use Rattle.std.specs.Prelude.{◌≡◌, ◌≤◌, length, drop};
 ghost use Rattle.metafile.specs.Refusals.{fault_in};
 ghost use Rattle.metafile.specs.Lines.{opened, lines_of, run};
 ghost use Rattle.table.specs.Codes.{line_no, lines_from};
+ghost use Rattle.lines.specs.Parts.{behind_taken};
 
+use crate::reader::Refused;
 use crate::run::{lines_fault, read_line, read_opened};
 use metafile::Refusal;
 use table::{numbers, places};
@@ -15,32 +17,38 @@ const HEAD_LINES: usize = numbers::DEPENDENCY_COUNT - numbers::CHUNK_HEADER_LENG
 
 const INTEGRITY_LINES: usize = numbers::CHECKSUM - numbers::CHUNK_SERIAL + 1;
 
+// The position behind a line, refused or not.
+fn behind(line: Result<usize, Refused>) -> usize
+    ensures { result ≡ behind_taken line }
+{
+    match line {
+        Ok(at) => at,
+        Err(refused) => refused.behind,
+    }
+}
+
 // The lines from Chunk_Header_Length to Chunk_Dependency_Length.
 pub fn head_lines_fault(s: &[u8]) -> Result<(), Refusal>
     ensures { fault_in result ≡ run (lines_of (lines_from 0 8)) s.now }
 {
     if places::DEPENDENCY_COUNT_LINE <= s.len() {
         let a = read_line(s, 0, numbers::CHUNK_HEADER_LENGTH);
-        let b = read_line(s, places::SUB_FORMAT_LINE, numbers::SUB_FORMAT_ID);
-        let c = read_line(s, places::GENERIC_TYPE_LINE, numbers::GENERIC_TYPE);
-        let d = read_line(s, places::SYNCH_TYPE_LINE, numbers::TIME_SYNCH_TYPE);
-        let e = read_line(s, places::TIME_STANDARD_LINE, numbers::TIME_STANDARD);
-        let f = read_line(s, places::TIME_OFFSET_LINE, numbers::TIME_OFFSET);
-        let g = read_line(s, places::EVENT_SYNCH_LINE, numbers::EVENT_SYNCH);
-        let h = read_line(
-            s,
-            places::DEPENDENCY_LENGTH_LINE,
-            numbers::DEPENDENCY_LENGTH,
-        );
-        if a.is_ok()
+        let b = read_line(s, behind(a), numbers::SUB_FORMAT_ID);
+        let c = read_line(s, behind(b), numbers::GENERIC_TYPE);
+        let d = read_line(s, behind(c), numbers::TIME_SYNCH_TYPE);
+        let e = read_line(s, behind(d), numbers::TIME_STANDARD);
+        let f = read_line(s, behind(e), numbers::TIME_OFFSET);
+        let g = read_line(s, behind(f), numbers::EVENT_SYNCH);
+        let h = read_line(s, behind(g), numbers::DEPENDENCY_LENGTH);
+        let clean = a.is_ok()
             & b.is_ok()
             & c.is_ok()
             & d.is_ok()
             & e.is_ok()
             & f.is_ok()
             & g.is_ok()
-            & h.is_ok()
-        {
+            & h.is_ok();
+        if clean {
             return Ok(());
         }
     }
@@ -64,12 +72,13 @@ pub fn integrity_fault(s: &[u8], at: usize) -> Result<(), Refusal>
     let v = &s[at..];
     if places::INTEGRITY_BYTES <= v.len() {
         let a = read_line(v, 0, numbers::CHUNK_SERIAL);
-        let b = read_line(v, places::RECORDING_DATE_LINE, numbers::RECORDING_DATE);
-        let c = read_line(v, places::RECORDING_AGENT_LINE, numbers::RECORDING_AGENT);
-        let d = read_line(v, places::WRITING_DATE_LINE, numbers::WRITING_DATE);
-        let e = read_line(v, places::WRITING_AGENT_LINE, numbers::WRITING_AGENT);
-        let f = read_line(v, places::CHECKSUM_LINE, numbers::CHECKSUM);
-        if a.is_ok() & b.is_ok() & c.is_ok() & d.is_ok() & e.is_ok() & f.is_ok() {
+        let b = read_line(v, behind(a), numbers::RECORDING_DATE);
+        let c = read_line(v, behind(b), numbers::RECORDING_AGENT);
+        let d = read_line(v, behind(c), numbers::WRITING_DATE);
+        let e = read_line(v, behind(d), numbers::WRITING_AGENT);
+        let f = read_line(v, behind(e), numbers::CHECKSUM);
+        let clean = a.is_ok() & b.is_ok() & c.is_ok() & d.is_ok() & e.is_ok() & f.is_ok();
+        if clean {
             return Ok(());
         }
     }

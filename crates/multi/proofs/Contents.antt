@@ -10,7 +10,7 @@ use lib.Dec.{leb}
 use lib.ListN.{length, drop, length-drop}
 use borrow.Author.Tests.{leb-true}
 use Rattle.metafile.specs.Bytes.{◌⊳◌, choose}
-use Rattle.metafile.specs.Multi.{types_of, multi_length, types_fault, types_bytes, minis_fault, minis_end, minis_place, declared_ids, multi_fault, multi_bytes}
+use Rattle.metafile.specs.Multi.{types_of, multi_length, types_fault, types_bytes, type_ids, minis_fault, minis_end, minis_place, declared_ids, multi_fault, multi_bytes}
 use Rattle.laws.proofs.First.{cases, and_both, ⊳-left, ⊳-right, ⊳-go, ⊳-assoc, require-true, choose-go, choose-stop}
 use Rattle.chunk_laws.proofs.Types.{types-enough}
 use Rattle.std.specs.declared.result.Result.TheVariants.{Ok, Err}
@@ -54,6 +54,11 @@ module _ (r : List ℕ) where
   unfolding head_fault
   head-most e =
       leb-true _ _ (and_both (leb 1 (types_of r)) (leb (types_of r) 64) (require-true _ 6 (⊳-left _ _ (⊳-right _ _ e)))).1
+
+  -- the short IDs of all the types are those declared
+  pub kept-declared : {n : ℕ} {ids : List (List ℕ)} → n ≡ types_of r → ids ≡ type_ids n (drop 65 r) → ids ≡ declared_ids r
+  unfolding declared_ids
+  kept-declared c e = rw c at e
 
   pub multi-head : (e : Refusal) → number_of e ≡ head_fault r → part_in (Err e) ≡ multi_part r
   unfolding multi_part

@@ -24,8 +24,8 @@ use Rattle.laws.proofs.Table.{field-short, field-long}
 use Rattle.laws.proofs.Distances.{lines}
 use Rattle.multi.specs.Part.{text_ids, first_mini, mini_rest, data_under}
 use Rattle.std.specs.declared.result.Result.TheVariants.{Ok, Err}
-use Rattle.metafile.specs.declared.refusal.Refusal.{Refusal}
 use Rattle.metafile.specs.Refusals.{number_of}
+use Rattle.lines.specs.declared.reader.Refused.{Refused}
 use Rattle.lines.specs.Parts.{field_no, Takes}
 use Rattle.lines.proofs.Runs.{refused, run-one, takes-stop, takes-fits, takes-go}
 use Rattle.laws.proofs.Stages.{stop, go, unmet, met, part_at}
@@ -71,8 +71,8 @@ module _ (at : ℕ) (r : List ℕ) (s : starts mini_label (drop at r) ≡ true) 
       let f = field-short 10 text_fault (drop (at + 10) r) (simp length-drop (omega arith)) in
       stop _ _ 4 (sym (id-is ∙ f)) (λ z. omega arith) ∙ sym (mini-stages ids)
 
-  pub mini-stop : (ids : List (List ℕ)) {x : Refusal} → Takes (field_no 15 1 ∷ []) (at + 10) r (Err x) → number_of x ≡ mini_fault ids (drop at r)
-  mini-stop ids {x = x} e = stop _ _ _ e.first (refused x) ∙ sym (mini-stages ids)
+  pub mini-stop : (ids : List (List ℕ)) {x : Refused} → Takes (field_no 15 1 ∷ []) (at + 10) r (Err x) → number_of x.refusal ≡ mini_fault ids (drop at r)
+  mini-stop ids {x = x} e = stop _ _ _ e.first (refused x.refusal) ∙ sym (mini-stages ids)
 
   -- x tells whether the short ID is declared
   module _ {x : Bool} (ids : List (List ℕ)) (q : x ≡ member (take (at + 20 - (at + 10)) (drop (at + 10) r)) ids) where
@@ -94,7 +94,7 @@ module _ (at : ℕ) (r : List ℕ) (s : starts mini_label (drop at r) ≡ true) 
 -- ---- its length and data
 
 module _ {at : ℕ} {r : List ℕ} where
-  pub data-stop : {x : Refusal} → Takes (field_no 12 1 ∷ []) at r (Err x) → number_of x ≡ mini_rest (drop at r)
+  pub data-stop : {x : Refused} → Takes (field_no 12 1 ∷ []) at r (Err x) → number_of x.refusal ≡ mini_rest (drop at r)
   unfolding mini_rest field_no opened line_no table multi_header_length
   data-stop {x = x} e = takes-stop _ (value (free (count_value (part at 12 r))) ∷ []) _ _ x e
 

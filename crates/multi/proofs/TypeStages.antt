@@ -27,8 +27,9 @@ use Rattle.multi.specs.Part.{head_fault, type_length_fault, type_names, type_res
 use Rattle.std.specs.declared.result.Result.{Result}
 use Rattle.std.specs.declared.result.Result.TheVariants.{Ok, Err}
 use Rattle.metafile.specs.declared.refusal.Refusal.{Refusal}
-use Rattle.metafile.specs.Refusals.{number_of, fault_in}
-use Rattle.lines.specs.Parts.{field_no, Takes}
+use Rattle.metafile.specs.Refusals.{number_of}
+use Rattle.lines.specs.declared.reader.Refused.{Refused}
+use Rattle.lines.specs.Parts.{field_no, fault_taken, Takes}
 use Rattle.lines.proofs.Runs.{refused, run-one, field_end, takes-stop, takes-fits, takes-go, takes-both}
 use Rattle.laws.proofs.Stages.{stop, go, unmet, met, part_at, fits}
 
@@ -44,18 +45,18 @@ head-fits r e =
     fits (lf ∷ []) 1 64 r refl (fits multi_head 64 0 r size-head (omega arith) (⊳-left _ _ e)) (⊳-right _ _ (⊳-right _ _ e))
 
 module _ {r : List ℕ} where
-  pub head_first : {x : Refusal} → Takes (lines_of (line_no 12 ∷ [])) 0 r (Err x) → number_of x ≡ head_fault r
+  pub head_first : {x : Refused} → Takes (lines_of (line_no 12 ∷ [])) 0 r (Err x) → number_of x.refusal ≡ head_fault r
   unfolding head_fault multi_head line_no table
-  head_first {x = x} a = stop _ _ _ (takes-stop _ (opened (line_no 13)) _ _ x a) (refused x)
+  head_first {x = x} a = stop _ _ _ (takes-stop _ (opened (line_no 13)) _ _ x a) (refused x.refusal)
 
   module _ {p : ℕ} (a : Takes (lines_of (line_no 12 ∷ [])) 0 r (Ok p)) where
-    head-both : {q : Result ℕ Refusal} → Takes (opened (line_no 13)) p r q → Takes multi_head 0 r q
+    head-both : {q : Result ℕ Refused} → Takes (opened (line_no 13)) p r q → Takes multi_head 0 r q
     unfolding multi_head line_no table
     head-both {q = q} b = takes-both _ _ _ _ p a q b
 
-    pub head-second : {x : Refusal} → Takes (opened (line_no 13)) p r (Err x) → number_of x ≡ head_fault r
+    pub head-second : {x : Refused} → Takes (opened (line_no 13)) p r (Err x) → number_of x.refusal ≡ head_fault r
     unfolding head_fault
-    head-second {x = x} b = stop _ _ _ (head-both b).first (refused x)
+    head-second {x = x} b = stop _ _ _ (head-both b).first (refused x.refusal)
 
     module _ {q : ℕ} (b : Takes (opened (line_no 13)) p r (Ok q)) where
       head-place : q ≡ 64
@@ -77,7 +78,7 @@ module _ {r : List ℕ} where
         pub head-many : 1 ≤ n → 64 < n → 7 ≡ head_fault r
         head-many h k = passed 7 (unmet _ 6 _ (rw (← m, le-leb 1 n h, lt-leb n 64 k)))
 
-        pub head-last : 1 ≤ n → n ≤ 64 → {end : Result ℕ Refusal} → Takes (field_no 13 2 ∷ []) q r end → fault_in end ≡ head_fault r
+        pub head-last : 1 ≤ n → n ≤ 64 → {end : Result ℕ Refused} → Takes (field_no 13 2 ∷ []) q r end → fault_taken end ≡ head_fault r
         head-last h k e =
             passed _ (met _ 7 _ _ (rw (← m, le-leb 1 n h, le-leb n 64 k)) (rw (field_end 13, head-place) at e.first))
 
@@ -104,10 +105,10 @@ unfolding type_bytes type_specific
 bytes-are at long r l = rw (long-is at long r l)
 
 module _ {at : ℕ} {r : List ℕ} where
-  pub length-stop : {x : Refusal} → Takes (opened (line_no 14)) at r (Err x) → (last : Bool) (announced : ℕ)
-      → number_of x ≡ type_length_fault last announced (at - 65) (drop at r)
+  pub length-stop : {x : Refused} → Takes (opened (line_no 14)) at r (Err x) → (last : Bool) (announced : ℕ)
+      → number_of x.refusal ≡ type_length_fault last announced (at - 65) (drop at r)
   unfolding type_length_fault line_no table
-  length-stop {x = x} e last announced = stop _ _ _ e.first (refused x)
+  length-stop {x = x} e last announced = stop _ _ _ e.first (refused x.refusal)
 
   module _ {p : ℕ} (e : Takes (opened (line_no 14)) at r (Ok p)) where
     pub length-fits : at ≤ length r → at + 34 ≤ length r
@@ -147,15 +148,15 @@ module _ {at : ℕ} {r : List ℕ} where
 -- ---- a type: names
 
 module _ {at : ℕ} {s : List ℕ} where
-  pub names-end : {x : Refusal} → Takes (field_no 14 2 ∷ []) at s (Err x) → number_of x ≡ run type_names (drop at s)
+  pub names-end : {x : Refused} → Takes (field_no 14 2 ∷ []) at s (Err x) → number_of x.refusal ≡ run type_names (drop at s)
   unfolding type_names field_no opened line_no table
   names-end {x = x} e = takes-stop _ (lines_of (line_no 1 ∷ []) ++ opened (line_no 15)) _ _ x e
 
   module _ {p : ℕ} (e : Takes (field_no 14 2 ∷ []) at s (Ok p)) where
-    names-both : {q : Result ℕ Refusal} → Takes (lines_of (line_no 1 ∷ [])) p s q → Takes ((field_no 14 2 ∷ []) ++ lines_of (line_no 1 ∷ [])) at s q
+    names-both : {q : Result ℕ Refused} → Takes (lines_of (line_no 1 ∷ [])) p s q → Takes ((field_no 14 2 ∷ []) ++ lines_of (line_no 1 ∷ [])) at s q
     names-both {q = q} a = takes-both _ _ _ _ p e q a
 
-    pub names-first : {x : Refusal} → Takes (lines_of (line_no 1 ∷ [])) p s (Err x) → number_of x ≡ run type_names (drop at s)
+    pub names-first : {x : Refused} → Takes (lines_of (line_no 1 ∷ [])) p s (Err x) → number_of x.refusal ≡ run type_names (drop at s)
     unfolding type_names field_no opened line_no table
     names-first {x = x} a = takes-stop _ (opened (line_no 15)) _ _ x (names-both a)
 
@@ -163,7 +164,7 @@ module _ {at : ℕ} {s : List ℕ} where
       pub names-fit : at ≤ length s → q ≤ length s
       names-fit h = takes-fits _ [] _ _ _ (names-both a) h
 
-      pub names-last : {id : Result ℕ Refusal} → Takes (opened (line_no 15)) q s id → fault_in id ≡ run type_names (drop at s)
+      pub names-last : {id : Result ℕ Refused} → Takes (opened (line_no 15)) q s id → fault_taken id ≡ run type_names (drop at s)
       unfolding type_names field_no opened line_no table
       names-last f = f.first ∙ takes-go _ (opened (line_no 15)) _ _ _ (names-both a)
 
@@ -174,17 +175,17 @@ unfolding lines lines_from table
 size-events = refl
 
 module _ {at : ℕ} {s : List ℕ} (n : ℕ) where
-  pub rest_end : {x : Refusal} → Takes (field_no 15 2 ∷ []) at s (Err x) → number_of x ≡ run (type_rest n) (drop at s)
+  pub rest_end : {x : Refused} → Takes (field_no 15 2 ∷ []) at s (Err x) → number_of x.refusal ≡ run (type_rest n) (drop at s)
   unfolding type_rest field_no opened
   rest_end {x = x} e = takes-stop _ (lines_of time_and_event ++ value (free n) ∷ []) _ _ x e
 
   module _ {p : ℕ} (e : Takes (field_no 15 2 ∷ []) at s (Ok p)) where
-    rest_both : {q : Result ℕ Refusal} → Takes (lines_of (lines_from 3 4)) p s q → Takes ((field_no 15 2 ∷ []) ++ lines_of (lines_from 3 4)) at s q
+    rest_both : {q : Result ℕ Refused} → Takes (lines_of (lines_from 3 4)) p s q → Takes ((field_no 15 2 ∷ []) ++ lines_of (lines_from 3 4)) at s q
     rest_both {q = q} a = takes-both _ _ _ _ p e q a
 
     pub rest-events : (x : Refusal) → number_of x ≡ run (lines_of (lines_from 3 4)) (drop p s) → number_of x ≡ run (type_rest n) (drop at s)
     unfolding type_rest field_no opened lines_from table time_and_event
-    rest-events x a = takes-stop _ (value (free n) ∷ []) _ _ x (rest_both (record { first = a; behind = tt }))
+    rest-events x a = takes-stop _ (value (free n) ∷ []) _ _ (record { refusal = x; behind = p + 183 }) (rest_both (record { first = a; behind = rw size-events }))
 
     module _ (a : 0 ≡ run (lines_of (lines_from 3 4)) (drop p s)) where
       rest-passed : Takes ((field_no 15 2 ∷ []) ++ lines_of (lines_from 3 4)) at s (Ok (p + 183))

@@ -3,7 +3,7 @@
 ghost use Rattle.std.specs.Prelude.{◌≡◌, [], ◌+◌, ◌-◌, ◌≤◌, length, take, drop};
 ghost use Rattle.metafile.specs.Bytes.{member};
 ghost use Rattle.metafile.specs.Lines.{run};
-ghost use Rattle.metafile.specs.Multi.{types_of, multi_length, type_bytes, type_fault, types_fault, types_bytes, declared_ids};
+ghost use Rattle.metafile.specs.Multi.{types_of, multi_length, type_bytes, type_fault, types_fault, types_bytes, type_ids};
 ghost use Rattle.metafile.specs.Refusals.{fault_in};
 ghost use Rattle.multi.specs.Part.{part_in, part_of, type_names, type_rest, type_length_fault};
 
@@ -99,10 +99,9 @@ pub fn type_bytes(r: &[u8], at: usize) -> usize
 // The n types, and the place after them; their short IDs are kept.
 pub fn types_part(r: &[u8], n: usize, ids: &mut [[u8; 10]]) -> Result<usize, Refusal>
     requires r_in_bounds { 65 ≤ length r.now }
-    requires n_value { n ≡ types_of r.now }
     requires ids_len { n ≤ length ids.old }
-    ensures value { part_in result ≡ part_of (types_fault (types_of r.now) (multi_length r.now) 0 [] (drop 65 r.now)) (65 + types_bytes (types_of r.now) (drop 65 r.now)) }
-    ensures ids_after { fault_in result ≡ 0 → take n ids.new ≡ declared_ids r.now }
+    ensures value { part_in result ≡ part_of (types_fault n (multi_length r.now) 0 [] (drop 65 r.now)) (65 + types_bytes n (drop 65 r.now)) }
+    ensures ids_after { fault_in result ≡ 0 → take n ids.new ≡ type_ids n (drop 65 r.now) }
 {
     let announced = runs::length_at(r, places::MULTI_HEADER_LENGTH);
     let mut at: usize = places::TYPES;

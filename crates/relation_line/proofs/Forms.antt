@@ -1,8 +1,9 @@
 -- The form of a line, and its verdict.
 --     form-five                                  where the fields of a relation line stand
 --     form-malformed form-relation               its verdict, by any test of its fields
---     serial-there                               what reading a serial number gives
+--     serial-there day-there                     what reading a serial number gives
 --     form-is                                    there is no other form
+--     form-unnamed form-formed form-unformed     the form, as the code finds it
 --     verdict-none verdict-formed verdict-unformed   the first verdict, as the code finds it
 --     verdict-form                               its number is the form
 -- Assumes nothing.
@@ -13,10 +14,16 @@ use mathlib.Core.List.{List}
 use native.Mathlib.Omega.{arith}
 use Rattle.std.proofs.Common.{is_some}
 use Rattle.metafile.specs.Fields.{is_serial}
-use Rattle.metafile.specs.Days.{serial_read}
+use Rattle.metafile.specs.Days.{serial_read, day_fault}
 use Rattle.metafile.specs.Relations.{split_on, well_formed, verdict_by}
 use Rattle.laws.proofs.First.{test}
 use Rattle.std.specs.Prelude.{Option, None, Some}
+use Rattle.std.specs.declared.result.Result.{Result}
+use Rattle.std.specs.declared.result.Result.TheVariants.{Ok, Err}
+use Rattle.std.specs.Result.{is_ok}
+use Rattle.metafile.specs.declared.Day.{Day}
+use Rattle.metafile.specs.declared.refusal.Refusal.{Refusal}
+use Rattle.metafile.specs.Refusals.{number_of, fault_in}
 use Rattle.relation_line.specs.declared.verdicts.Verdict.TheVariants.{Undeclared, Malformed}
 use Rattle.relation_line.specs.Form.{has_name, form_of, first_verdict, form_number, Five}
 use Rattle.relation_line.proofs.Stand.{standing}
@@ -25,13 +32,13 @@ form-by : (line : List ℕ) → form_of line ≡ cond (has_name line) (cond (wel
 unfolding form_of verdict_by
 form-by line = refl
 
-form-unnamed : (line : List ℕ) → has_name line ≡ false → form_of line ≡ 0
+pub form-unnamed : (line : List ℕ) → has_name line ≡ false → form_of line ≡ 0
 form-unnamed line e = form-by line ∙ rw e
 
-form-formed : (line : List ℕ) → has_name line ≡ true → well_formed (split_on 9 line) ≡ true → form_of line ≡ 2
+pub form-formed : (line : List ℕ) → has_name line ≡ true → well_formed (split_on 9 line) ≡ true → form_of line ≡ 2
 form-formed line e w = form-by line ∙ rw (e, w)
 
-form-unformed : (line : List ℕ) → has_name line ≡ true → well_formed (split_on 9 line) ≡ false → form_of line ≡ 3
+pub form-unformed : (line : List ℕ) → has_name line ≡ true → well_formed (split_on 9 line) ≡ false → form_of line ≡ 3
 form-unformed line e w = form-by line ∙ rw (e, w)
 
 -- the first verdict, as the code finds it
@@ -99,3 +106,15 @@ module _ (check : List (List ℕ) → Bool) (line : List ℕ) where
 pub serial-there : (v : List ℕ) → is_some (serial_read v) ≡ is_serial v
 unfolding serial_read
 serial-there v = test (is_serial v) (λ e. rw e) (λ e. rw e)
+
+-- a refusal has a number
+refused : (x : Refusal) → number_of x ≡ 0 → ⊥
+refused x e = grind arith
+
+-- and no fault where there is a day
+pub day-there : (d : Option Day) (r : Result Unit Refusal) → fault_in r ≡ day_fault d → is_ok r ≡ is_some d
+unfolding day_fault
+day-there None (Ok a) e = absurd (omega (arith, e))
+day-there None (Err x) e = refl
+day-there (Some d) (Ok a) e = refl
+day-there (Some d) (Err x) e = absurd (refused x e)

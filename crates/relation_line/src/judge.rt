@@ -4,10 +4,11 @@ ghost use Rattle.std.specs.Prelude.{◌≡◌, true, ◌+◌, ◌*◌, ◌≤◌
 ghost use Rattle.metafile.specs.Bytes.{part};
 ghost use Rattle.metafile.specs.Fields.{is_serial};
 ghost use Rattle.metafile.specs.Relations.{split_on, well_formed, is_parent_of, chunk_declares};
-ghost use Rattle.relation_line.specs.Form.{has_name, form_of, first_verdict};
+ghost use Rattle.relation_line.specs.Form.{has_name, form_of, first_verdict, form_number};
 
 use crate::parts;
 use crate::verdicts::Verdict;
+use metafile::Day;
 use table::places;
 
 // The first field is the name of a relation line.
@@ -31,7 +32,8 @@ fn serial_at(line: &[u8], at: usize) -> bool
     requires { at + 38 ≤ length line.now }
     ensures { result ≡ is_serial (part at 38 line.now) }
 {
-    fields::read_serial(fields::serial_from(&line[at..at + places::SERIAL])).is_some()
+    let day = fields::read_serial(fields::serial_from(&line[at..at + places::SERIAL]));
+    Day::fault(day).is_ok()
 }
 
 // A line that has the name has five well-formed fields: these have fixed lengths, so all is tested by place.
@@ -54,7 +56,8 @@ fn is_formed(line: &[u8]) -> bool
 
 // The verdict of a line where nothing is declared yet; a comment has none.
 pub fn form(line: &[u8]) -> Option<Verdict>
-    ensures { result ≡ first_verdict line.now }
+    ensures verdict { result ≡ first_verdict line.now }
+    ensures number { form_number result ≡ form_of line.now }
 {
     if !is_named(line) {
         return None;

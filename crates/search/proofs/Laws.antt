@@ -1,7 +1,7 @@
 -- Laws of the search for a mark ("the first place where the mark occurs"), for the loops of src/lib.rt.
 --     same-..      two runs of bytes: lengths that differ, as `==` of the library compares them
 --     all-..       all bytes compared, one after another
---     starts-..    a beginning: too short, across two runs
+--     starts-..    a beginning: too short, across two runs; front-.. its first bytes
 --     find-..      found here, later, never past the end
 --     Passed       the search over all is the search from a place on: nothing was found before it
 --     passed-..    such a place where the search begins, one place on, several, on to a byte; what is found there, from there on, at
@@ -99,6 +99,19 @@ starts-rest m s t a b h e z f = rw part-drop at f ∙ sym (starts-across m s t h
 
 pub starts-not : (m s t : List ℕ) (a : Bool) → length s ≤ length m → a ≡ same s (take (length s) m) → a ≡ false → false ≡ starts m (s ++ t)
 starts-not m s t a h e z = sym (starts-across m s t h ∙ rw (← e, z))
+
+-- a mark whose first k bytes differ
+module _ (m s : List ℕ) (k : ℕ) (h : k ≤ length m) (g : length m ≤ length s) where
+  front-long : length (take k s) ≡ k
+  front-long = omega (arith, length-take k s)
+
+  front-fits : length (take k s) ≤ length m
+  front-fits = omega (arith, front-long)
+
+  pub front-not : (a : Bool) → a ≡ same (take k s) (take k m) → a ≡ false → false ≡ starts m s
+  front-not a e z =
+      let q : false ≡ starts m (take k s ++ drop k s) = starts-not m (take k s) (drop k s) a front-fits (rw front-long e) z in
+      rw (take-append-drop k s) at q
 
 -- ---- places passed over
 

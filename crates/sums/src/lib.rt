@@ -16,8 +16,8 @@ pub fn byte_sum(s: &[u8]) -> u8
     ensures { result ≡ sum s.now }
 {
     let mut acc: u8 = 0;
-    for b in s {
-        acc = acc.wrapping_add(*b);
+    for i in 0..s.len() {
+        acc = acc.wrapping_add(s[i]);
     }
     acc
 }

@@ -12,6 +12,9 @@ pub fn is_padded(field: &[u8], name: &[u8]) -> bool
         return false;
     }
     let (first, rest) = field.split_at(name.len());
+    if !search::same_bytes(first, name) {
+        return false;
+    }
     let spaces = [b' '; 256];
-    search::same_bytes(first, name) && search::same_bytes(rest, &spaces[..rest.len()])
+    search::same_bytes(rest, &spaces[..rest.len()])
 }

@@ -24,38 +24,29 @@ pub const HEADER_LENGTH: usize = rows::CHUNK_HEADER_LENGTH.long as usize;
 // "counts from just after its last digit"
 pub const HEADER_LENGTH_END: usize = HEADER_LENGTH + LENGTH;
 
-pub const SUB_FORMAT_LINE: usize = HEADER_LENGTH_END + 1;
-
-pub const SUB_FORMAT: usize = SUB_FORMAT_LINE + rows::SUB_FORMAT_ID.long as usize;
+pub const SUB_FORMAT: usize = HEADER_LENGTH_END + 1 + rows::SUB_FORMAT_ID.long as usize;
 
 pub const SUB_FORMAT_END: usize = SUB_FORMAT + rows::SUB_FORMAT_ID.width as usize;
 
-pub const GENERIC_TYPE_LINE: usize = SUB_FORMAT_END + 1;
+pub const GENERIC_TYPE: usize = SUB_FORMAT_END + 1 + rows::GENERIC_TYPE.long as usize;
 
-pub const GENERIC_TYPE: usize = GENERIC_TYPE_LINE + rows::GENERIC_TYPE.long as usize;
+pub const SYNCH_TYPE: usize = GENERIC_TYPE + WORD + 1 + rows::TIME_SYNCH_TYPE.long as usize;
 
-pub const SYNCH_TYPE_LINE: usize = GENERIC_TYPE + WORD + 1;
+pub const TIME_STANDARD: usize = SYNCH_TYPE + WORD + 1 + rows::TIME_STANDARD.long as usize;
 
-pub const SYNCH_TYPE: usize = SYNCH_TYPE_LINE + rows::TIME_SYNCH_TYPE.long as usize;
-
-pub const TIME_STANDARD_LINE: usize = SYNCH_TYPE + WORD + 1;
-
-pub const TIME_STANDARD: usize = TIME_STANDARD_LINE + rows::TIME_STANDARD.long as usize;
-
-pub const TIME_OFFSET_LINE: usize = TIME_STANDARD + rows::TIME_STANDARD.width as usize + 1;
-
-pub const TIME_OFFSET: usize = TIME_OFFSET_LINE + rows::TIME_OFFSET.long as usize;
+pub const TIME_OFFSET: usize = TIME_STANDARD
+    + rows::TIME_STANDARD.width as usize
+    + 1
+    + rows::TIME_OFFSET.long as usize;
 
 pub const TIME_OFFSET_END: usize = TIME_OFFSET + OFFSET;
 
-pub const EVENT_SYNCH_LINE: usize = TIME_OFFSET_END + 1;
+const EVENT_SYNCH: usize = TIME_OFFSET_END + 1 + rows::EVENT_SYNCH.long as usize;
 
-pub const DEPENDENCY_LENGTH_LINE: usize = EVENT_SYNCH_LINE
-    + rows::EVENT_SYNCH.long as usize
+pub const DEPENDENCY_LENGTH: usize = EVENT_SYNCH
     + rows::EVENT_SYNCH.width as usize
-    + 1;
-
-pub const DEPENDENCY_LENGTH: usize = DEPENDENCY_LENGTH_LINE + rows::DEPENDENCY_LENGTH.long as usize;
+    + 1
+    + rows::DEPENDENCY_LENGTH.long as usize;
 
 pub const DEPENDENCY_LENGTH_END: usize = DEPENDENCY_LENGTH + LENGTH;
 
@@ -163,24 +154,23 @@ pub const MINI_DATA: usize = MINI_LENGTH + LENGTH;
 
 pub const CHUNK_SERIAL: usize = rows::CHUNK_SERIAL.long as usize;
 
-pub const RECORDING_DATE_LINE: usize = CHUNK_SERIAL + SERIAL + 1;
+pub const RECORDING_DATE: usize = CHUNK_SERIAL + SERIAL + 1 + rows::RECORDING_DATE.long as usize;
 
-pub const RECORDING_DATE: usize = RECORDING_DATE_LINE + rows::RECORDING_DATE.long as usize;
-
-pub const RECORDING_AGENT_LINE: usize = RECORDING_DATE + DATE + 1;
-
-pub const WRITING_DATE_LINE: usize = RECORDING_AGENT_LINE
+pub const WRITING_DATE: usize = RECORDING_DATE
+    + DATE
+    + 1
     + rows::RECORDING_AGENT.long as usize
     + AGENT
-    + 1;
+    + 1
+    + rows::WRITING_DATE.long as usize;
 
-pub const WRITING_DATE: usize = WRITING_DATE_LINE + rows::WRITING_DATE.long as usize;
-
-pub const WRITING_AGENT_LINE: usize = WRITING_DATE + DATE + 1;
-
-pub const CHECKSUM_LINE: usize = WRITING_AGENT_LINE + rows::WRITING_AGENT.long as usize + AGENT + 1;
-
-pub const CHECKSUM: usize = CHECKSUM_LINE + rows::CHECKSUM.long as usize;
+pub const CHECKSUM: usize = WRITING_DATE
+    + DATE
+    + 1
+    + rows::WRITING_AGENT.long as usize
+    + AGENT
+    + 1
+    + rows::CHECKSUM.long as usize;
 
 pub const INTEGRITY_BYTES: usize = CHECKSUM + SUM + 1;
 

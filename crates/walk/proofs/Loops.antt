@@ -3,10 +3,12 @@
 --     turn              from one row to the next
 --     step-..           the answers of a step
 --     seen-passed seen_more with-there row-only row_other   the serial number of the chunk of a row, compared
---     numbered-.. between-..   the answers on a serial number
+--     numbered-.. between-.. between_..   the answers on a serial number
 -- Assumes nothing.
 use Prim.Native.Nat.{ℕ, suc, ◌+◌, ◌-◌, ◌≤◌, ◌<◌}
-use Rattle.std.specs.Prelude.{Option, Some, None, is_some}
+use Rattle.std.specs.Prelude.{Some, None, is_ok}
+use Rattle.std.specs.Result.{result_ok, result_or}
+use Rattle.std.specs.declared.result.Result.{Result}
 use Rattle.std.specs.declared.result.Result.TheVariants.{Ok, Err}
 use mathlib.Core.Bool.{Bool, true, false, not, ◌&&◌, ◌||◌}
 use mathlib.Core.Path.{◌≡◌, refl, sym, ap, ◌∙◌}
@@ -206,7 +208,7 @@ module _ (x file : List ℕ) (e : header_fault file ≡ 0) (j at : ℕ) (h : j <
   pub row_other : b ≡ false → row_with x (rows_of file) ≡ j → ⊥
   row_other y = with-other x (rows_of file) j h (sym same_row ∙ y)
 
-  pub between-here : (i k : ℕ) → i ≤ j → j < k → b ≡ true → Some (record { row = j; place = at }) ≡ between_of file i k x
+  pub between-here : (i k : ℕ) → i ≤ j → j < k → b ≡ true → Ok (record { row = j; place = at }) ≡ between_of file i k x
   unfolding between_of
   between-here i k l m y = rw (row-only y, le-leb i j l, lt-ltb j k m, p)
 
@@ -223,47 +225,55 @@ module _ (x file : List ℕ) (i : ℕ) (h : i ≤ length (rows_of file)) (k : kn
 -- ---- a search among the rows from i up to k
 
 module _ (x file : List ℕ) (i k : ℕ) where
-  pub between_none : (i ≤ row_with x (rows_of file) → k ≤ row_with x (rows_of file)) → None ≡ between_of file i k x
+  pub between_none : (i ≤ row_with x (rows_of file) → k ≤ row_with x (rows_of file)) → (at : ℕ) → at ≡ place_after file k
+      → Err at ≡ between_of file i k x
   unfolding between_of
-  between_none f =
+  between_none f at p =
       test (leb i (row_with x (rows_of file)))
-      (λ q. rw (q, le-ltb (row_with x (rows_of file)) k (f (leb-true _ _ q))))
-      (λ q. rw q)
+      (λ q. rw (q, le-ltb (row_with x (rows_of file)) k (f (leb-true _ _ q)), p))
+      (λ q. rw (q, p))
 
-  between-found : (r : Option Placed) → r ≡ between_of file i k x → is_some r ≡ (leb i (row_with x (rows_of file)) && ltb (row_with x (rows_of file)) k)
-  unfolding between_of
-  between-found r is = ap is_some is ∙ test (leb i (row_with x (rows_of file)) && ltb (row_with x (rows_of file)) k) (λ q. rw q) (λ q. rw q)
+  module _ (r : Result Placed ℕ) (is : r ≡ between_of file i k x) where
+    pub between_is : is_ok r ≡ (leb i (row_with x (rows_of file)) && ltb (row_with x (rows_of file)) k)
+    unfolding between_of
+    between_is = ap is_ok is ∙ test (leb i (row_with x (rows_of file)) && ltb (row_with x (rows_of file)) k) (λ q. rw q) (λ q. rw q)
+
+  module _ (p : Placed) (is : Ok p ≡ between_of file i k x) where
+    pub between-there : header_fault file ≡ 0 → k ≤ length (rows_of file) → Some p ≡ numbered_of file x
+    unfolding between_of numbered_of
+    between-there e h =
+        let w = row_with x (rows_of file) in
+        let q = sym (between_is (Ok p) is) in
+        let l : w < k = ltb-true _ _ (and_both (leb i w) (ltb w k) q).1 in
+        let inside : w < length (rows_of file) = omega arith in
+        ap result_ok is ∙ rw (q, lt-ltb _ _ inside, row-place file e w inside)
 
 -- from the first row on
-module _ (x file : List ℕ) (k : ℕ) (h : k ≤ length (rows_of file)) (r : Option Placed) (is : r ≡ between_of file 0 k x) where
-  pub between_known : is_some r ≡ known x (serials_of (take k (rows_of file)))
-  between_known =
-      between-found x file 0 k r is ∙ rw (le-leb 0 (row_with x (rows_of file)) (omega arith)) (known-with x (rows_of file) k h)
-
-  pub between-there : header_fault file ≡ 0 → is_some r ≡ true → r ≡ numbered_of file x
-  unfolding between_of numbered_of
-  between-there e y =
-      let w = row_with x (rows_of file) in
-      let q = sym (between-found x file 0 k r is) ∙ y in
-      let l : w < k = ltb-true _ _ (and_both (leb 0 w) (ltb w k) q).1 in
-      let inside : w < length (rows_of file) = omega arith in
-      is ∙ rw (q, lt-ltb _ _ inside, row-place file e w inside)
+pub between_known : (x file : List ℕ) (k : ℕ) → k ≤ length (rows_of file) → (r : Result Placed ℕ) → r ≡ between_of file 0 k x → is_ok r ≡ known x (serials_of (take k (rows_of file)))
+between_known x file k h r is =
+    between_is x file 0 k r is ∙ rw (le-leb 0 (row_with x (rows_of file)) (omega arith)) (known-with x (rows_of file) k h)
 
 -- first from row m up to row i, then before row m
 module _ (x file : List ℕ) (m i : ℕ) (l : m ≤ i) where
-  pub between-late : (p : Placed) → Some p ≡ between_of file m i x → Some p ≡ between_of file 0 i x
+  pub between-late : (p : Placed) → Ok p ≡ between_of file m i x → Ok p ≡ between_of file 0 i x
   unfolding between_of
   between-late p is =
       let w = row_with x (rows_of file) in
-      let q = sym (between-found x file m i _ is) in
+      let q = sym (between_is x file m i _ is) in
       is ∙ rw (q, le-leb 0 w (omega arith), (and_both (leb m w) (ltb w i) q).1)
 
-  pub between-early : None ≡ between_of file m i x → between_of file 0 m x ≡ between_of file 0 i x
+  -- where the first ended
+  abbrev end_in : Result Placed ℕ → ℕ
+  end_in (Ok p) = 0
+  end_in (Err n) = n
+
+  pub between-early : (end : ℕ) → Err end ≡ between_of file m i x → result_or (between_of file 0 m x) (Err end) ≡ between_of file 0 i x
   unfolding between_of
-  between-early is =
+  between-early end is =
       let w = row_with x (rows_of file) in
-      let none = sym (between-found x file m i _ is) in
+      let none = sym (between_is x file m i _ is) in
+      let end_is : end ≡ place_after file i = ap end_in is ∙ rw none in
       rw (le-leb 0 w (omega arith))
       (test (ltb w m)
       (λ q. rw (q, lt-ltb w i (omega (arith, ltb-true w m q))))
-      (λ q. rw (q, rw (le-leb m w (ltb-false w m q)) at none)))
+      (λ q. rw (q, rw (le-leb m w (ltb-false w m q)) at none, end_is)))

@@ -7,6 +7,7 @@
 --     Named, named        the row is there: its parts, by the layout of its chunk, and inside the file
 --     named-goes refused_by   a row answered, or a refusal
 --     named_small         the file is within the limit
+--     named-short         no row is answered within the limit: no row of that number is there
 --     named-later refused-later earlier-place   what was answered for an earlier row
 -- Assumes nothing.
 use Prim.Native.Nat.{ℕ, suc, ◌+◌, ◌≤◌, ◌<◌}
@@ -17,7 +18,7 @@ use native.Mathlib.Omega.{arith}
 use lib.Dec.{leb, ltb}
 use Rattle.std.specs.declared.result.Result.TheVariants.{Ok}
 use lib.ListN.{length, drop}
-use borrow.Author.Tests.{le-leb, lt-leb, leb-true, leb-false}
+use borrow.Author.Tests.{le-leb, lt-leb, leb-true, leb-false, ltb-true, ltb-false}
 use Rattle.metafile.specs.declared.Row.{Row}
 use Rattle.metafile.specs.declared.refusal.Refusal.{Refusal}
 use Rattle.metafile.specs.Refusals.{number_of}
@@ -28,7 +29,7 @@ use Rattle.metafile.specs.Reading.{rows_of}
 use Rattle.metafile.specs.Answers.{Test, refuse, first_refusal, limit, over_limit}
 use Rattle.metafile.specs.Append.{row_no}
 use Rattle.metafile.specs.Calls.{contents_tests}
-use Rattle.laws.proofs.First.{cases, untrue, or-false, choose-go, choose-stop}
+use Rattle.laws.proofs.First.{test, cases, untrue, or-false, choose-go, choose-stop}
 use Rattle.laws.proofs.Accepted.{refusal-none, refusal-first, refusal-next, tests-end, limit-over, limit-under, limit-small}
 use Rattle.chunk_laws.proofs.File.{header-cases, rows-unbegun}
 use Rattle.chunk_laws.proofs.Places.{RowInside, row_inside}
@@ -209,6 +210,16 @@ module _ (file : List ℕ) (m k : ℕ) (l : m ≤ k) (c : Cursor) (e : c ≡ nam
   earlier-place w =
       let n = named-earlier w in
       n.place_is ∙ row-place file (place-begun n) m n.in_rows
+
+-- no row is there, by a cursor that doesn't go, in a file within the limit
+pub named-short : (file : List ℕ) (m : ℕ) {c : Cursor} → c ≡ named_of file m → c.go ≡ false → length file ≤ 1073741824 → length (rows_of file) ≤ m
+unfolding contents_tests
+named-short file m {c} e g h =
+    test (ltb m (length (rows_of file)))
+    (λ q.
+    let none : first_refusal (contents_tests file m) ≡ 0 = tests-on _ _ m [] (limit-under (length file) h) (ltb-true _ _ q) ∙ tests-end in
+    untrue (sym g ∙ (named file m c e (number_is file m c e ∙ none)).goes))
+    (λ q. ltb-false _ _ q)
 
 -- a later row is refused as the earlier is
 pub refused-later : (file : List ℕ) (m k : ℕ) → m ≤ k → (r : Refusal) → cursor_none (number_of r) ≡ named_of file m → cursor_none (number_of r) ≡ named_of file k

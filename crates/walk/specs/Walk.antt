@@ -58,9 +58,9 @@ numbered_of file x =
     (Some (record { row = row_with x (rows_of file); place = (row_no (rows_of file) (row_with x (rows_of file))).place }))
     None
 
--- the same among the rows from i up to k
-unfoldable pub between_of : List ℕ → ℕ → ℕ → List ℕ → Option Placed
+-- the same among the rows from i up to k; where there is none, where the last of them ends
+unfoldable pub between_of : List ℕ → ℕ → ℕ → List ℕ → Result Placed ℕ
 between_of file i k x =
     cond (leb i (row_with x (rows_of file)) && ltb (row_with x (rows_of file)) k)
-    (Some (record { row = row_with x (rows_of file); place = place_after file (row_with x (rows_of file)) }))
-    None
+    (Ok (record { row = row_with x (rows_of file); place = place_after file (row_with x (rows_of file)) }))
+    (Err (place_after file k))

@@ -32,14 +32,14 @@ pub fn empty_index() -> [u32; INDEX]
     [0; INDEX]
 }
 
-// The row with a serial number among those from row i, which begins at `place`, up to row k.
+// The row with a serial number among those from row i, which begins at `place`, up to row k; else where the last of them ends.
 pub fn row_between(
     source: Source,
     i: usize,
     place: usize,
     k: usize,
     serial: [u8; 38],
-) -> Option<Placed>
+) -> Result<Placed, usize>
     requires i_le_k { i ≤ k }
     requires k_in_bounds { k ≤ length (rows_of source.file.now) }
     requires place_value { place ≡ place_after source.file.now i }
@@ -49,11 +49,11 @@ pub fn row_between(
     for row in i..k {
         let l = source.known_chunk(at);
         if fields::same_serial(serial, source.serial_at(at, l)) {
-            return Some(Placed { row, place: at });
+            return Ok(Placed { row, place: at });
         }
         at += l.end;
     }
-    None
+    Err(at)
 }
 
 // Whether a serial number is in one of the first i rows: their chunks are read again, from the header on.
@@ -61,7 +61,7 @@ fn rescanned(source: Source, i: usize, serial: [u8; 38]) -> bool
     requires i_in_bounds { i ≤ length (rows_of source.file.now) }
     ensures { result ≡ known serial (serials_of (take i (rows_of source.entry.file.now))) }
 {
-    row_between(source, 0, source.header.end, i, serial).is_some()
+    row_between(source, 0, source.header.end, i, serial).is_ok()
 }
 
 // The same without the index, which is left for a look at the chunks ahead, up to row `until`.

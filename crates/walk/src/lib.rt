@@ -35,5 +35,6 @@ pub use cursor::{ALL, Cursor, behind, first, next, none};
 pub use earlier::{INDEX, empty_index};
 pub use headers::header;
 pub use known::{Places, cursor_at, last, row_at, row_here};
+pub use source::{chunk_at, serial_at};
 pub use surveys::survey;
 pub use walks::{row_behind, row_of, row_with};

@@ -73,3 +73,27 @@ pub struct Position<'a> {
     ghost few: { row ≤ length (rows_of source.file.now) },
     ghost at_is: { at ≡ place_after source.file.now row },
 }
+
+// The chunk at a place of the file.
+pub fn chunk_at(file: &[u8], h: Header, at: usize) -> Layout
+    requires h_value { h ≡ header_of file.now }
+    requires number_value { h.number ≡ 0 }
+    requires at_in_bounds { at ≤ length file.now }
+    ensures { result ≡ chunk_at file.now at }
+{
+    let source = Source { file, header: h };
+    source.chunk_at(at)
+}
+
+// The serial number of the whole chunk at a place of the file.
+pub fn serial_at(file: &[u8], h: Header, at: usize, l: Layout) -> [u8; 38]
+    requires h_value { h ≡ header_of file.now }
+    requires number_value { h.number ≡ 0 }
+    requires at_in_bounds { at ≤ length file.now }
+    requires l_value { l ≡ chunk_at file.now at }
+    requires number_value_2 { l.number ≡ 0 }
+    ensures { result ≡ serial_of (mark_of file.now) (drop at file.now) }
+{
+    let source = Source { file, header: h };
+    source.serial_at(at, l)
+}

@@ -51,7 +51,7 @@ pub fn row_of(file: &[u8], k: usize, until: usize, index: &mut [u32]) -> Result<
     reached(file, c, k, until, index)
 }
 
-// The same for row k, from the cursor that row_of answered for row m, not behind it.
+// The same for row k, from what row_of answered for row m, not behind it; a cursor at no row is refused too.
 pub fn row_behind(
     file: &[u8],
     m: usize,
@@ -60,7 +60,6 @@ pub fn row_behind(
     index: &mut [u32],
 ) -> Result<Cursor, Refusal>
     requires named_value { named_in named ≡ named_of file.now m }
-    requires goes { IfOk named (λ c. c.go ≡ true) }
     requires m_le_k { m ≤ k }
     requires indexed { Indexed file.now (m + 1) index.old }
     ensures named { named_in result ≡ named_of file.now k }
@@ -68,22 +67,30 @@ pub fn row_behind(
     ensures indexed { Indexed file.now (k + 1) index.new }
 {
     match named {
-        Ok(c) => reached(file, c, k, k, index),
+        Ok(c) if c.go => reached(file, c, k, k, index),
+        Ok(_) if LIMIT < file.len() => Err(Refusal::OverLimit),
+        Ok(_) => Err(Refusal::NoRow),
         Err(refusal) => Err(refusal),
     }
 }
 
-// The row with a serial number among the rows before row i: first from row m on, which begins at `place`, then before it. A
-// chunk rests more often on a recent one.
-fn row_before(source: Source, m: usize, place: usize, i: usize, serial: [u8; 38]) -> Option<Placed>
+// The row with a serial number among the rows before row i, else where the last of them ends: first from row m on, which begins
+// at `place`, then before it. A chunk rests more often on a recent one.
+fn row_before(
+    source: Source,
+    m: usize,
+    place: usize,
+    i: usize,
+    serial: [u8; 38],
+) -> Result<Placed, usize>
     requires m_le_i { m ≤ i }
     requires i_in_bounds { i ≤ length (rows_of source.file.now) }
     requires place_value { place ≡ place_after source.file.now m }
     ensures { result ≡ between_of source.entry.file.now 0 i serial }
 {
     match row_between(source, m, place, i, serial) {
-        Some(late) => Some(late),
-        None => row_between(source, 0, source.header.end, m, serial),
+        Ok(late) => Ok(late),
+        Err(end) => row_between(source, 0, source.header.end, m, serial).or(Err(end)),
     }
 }
 
@@ -107,9 +114,8 @@ pub fn row_with(
         file,
         header: own.header,
     };
-    let before = row_before(source, m, place, own.row, serial);
-    if before.is_some() {
-        return before;
+    if let Ok(before) = row_before(source, m, place, own.row, serial) {
+        return Some(before);
     }
     let mut c = own;
     while c.go {

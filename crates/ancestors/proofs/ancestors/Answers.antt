@@ -49,6 +49,7 @@ returns-then-list-count c =
 pub missing-requires-clause-small : goal.missing-requires-clause-small
 missing-requires-clause-small c =
     small-counts (noted (goal.at.missing-requires-clause-small c).After-put_steps) c.put_steps.auto.rows (limit-small _ _ (sym c.over_limit.ensures ∙ c.if-over_limit.false)) c.put_steps.ensures.1
+    _ (marks-long (goal.at.missing-requires-clause-small c).After-count-count ∙ sym (long (goal.at.missing-requires-clause-small c).After-put_steps))
 
 pub returns : goal.returns
 returns c =

@@ -3,7 +3,7 @@ use Rattle.std.proofs.Common.{◌≡◌, false, [], ◌∷◌, length, sym, ◌�
 use Rattle.std.proofs.lemmas.Result.{err_from_is_err_and}
 use Rattle.metafile.specs.Answers.{over_limit}
 use Rattle.laws.proofs.Accepted.{limit-small}
-use Rattle.blocks.proofs.Answers.{unpack-11, unpack-wrong, unpack-18, unpack-done}
+use Rattle.blocks.proofs.Answers.{unpack-11, unpack-refused, unpack-18, unpack-done}
 use Rattle.blocks.proofs.unpack.Goals as goal
 use Rattle.blocks.proofs.unpack.Goals.{Else-over_limit}
 
@@ -20,7 +20,7 @@ unpack_fault-requires c = limit-small _ _ (within c)
 pub returns-in_err-unpack_fault : goal.returns-in_err-unpack_fault
 returns-in_err-unpack_fault c =
     let p = err_from_is_err_and c.from_residual.result c.from_residual.ensures.1 in
-    rw (p.1, p.2) (unpack-wrong _ _ (within (goal.at.returns-in_err-unpack_fault c).Else-over_limit) c.in_err-unpack_fault.field-0.0 c.in_err-unpack_fault.ensures)
+    rw (p.1, p.2) (unpack-refused _ _ (within (goal.at.returns-in_err-unpack_fault c).Else-over_limit) c.in_err-unpack_fault.field-0.0 c.in_err-unpack_fault.ensures)
 
 pub unpacked_length-length-requires : goal.unpacked_length-length-requires
 unpacked_length-length-requires c = record { x_len_bound = limit-small _ _ (within (goal.at.unpacked_length-length-requires c).Else-over_limit); x_value = sym c.in_ok-unpack_fault.ensures }

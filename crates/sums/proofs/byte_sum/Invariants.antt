@@ -4,5 +4,5 @@ use Rattle.std.proofs.Common.{◌≡◌, take}
 use Rattle.metafile.specs.Bytes.{sum}
 use Rattle.sums.proofs.byte_sum.Given as goal
 
-abbrev pub invariant-loop-b : goal.invariant-loop-b
-invariant-loop-b l = l.acc ≡ sum (take l.b-index l.s)
+abbrev pub invariant-loop-i : goal.invariant-loop-i
+invariant-loop-i l = l.acc ≡ sum (take l.i l.s)

@@ -5,7 +5,7 @@ use Rattle.ancestors.proofs.steps.put_row.Goals as goal
 use Rattle.ancestors.proofs.steps.put_row.Goals.{in-Some, in-None}
 
 pub loop-j-init : goal.loop-j-init
-loop-j-init c = tabling-none c.requires.tabled
+loop-j-init c = tabling-none c.requires.tabled c.requires.noted.few c.requires.row_in_bounds
 
 pub loop-j-preserved : goal.loop-j-preserved
 loop-j-preserved c =
@@ -14,7 +14,7 @@ loop-j-preserved c =
     elim c.match-row_with.branch [
       | in-Some w ↦
           rw (w.table-is, w.missing-is)
-          (tabling_row c.loop-j.invariant _ (w.in-Some.ensures.1 ∙ parent) p.noted.few p.row_in_bounds w.in-Some.ensures.0 p.noted.count)
+          (tabling_row c.loop-j.invariant _ (w.in-Some.ensures.1 ∙ parent) p.noted.count p.noted.few p.row_in_bounds w.in-Some.ensures.0)
       | in-None w ↦
           rw (w.table-is, w.missing-is) (tabling-missing c.loop-j.invariant p.noted.count (rw parent at w.in-None.ensures))
     ]

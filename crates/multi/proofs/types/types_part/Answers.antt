@@ -6,7 +6,7 @@ use lib.ListN.{drop}
 use Rattle.std.proofs.Common.{rules}
 use Rattle.std.proofs.lemmas.Result.{err_from_is_err_and}
 use Rattle.lines.proofs.Runs.{refused}
-use Rattle.metafile.specs.Multi.{multi_length, declared_ids}
+use Rattle.metafile.specs.Multi.{multi_length}
 use Rattle.multi.proofs.TypeWalk.{walk-stops, type-least, this-fits, walk-next, walk-faults, walk_ends, walk-declared}
 use Rattle.multi.proofs.Contents.{part-stopped, part-taken}
 use Rattle.multi.proofs.types.types_part.Goals as goal
@@ -15,7 +15,7 @@ pub returns-in_err-type_fault-clause-value : goal.returns-in_err-type_fault-clau
 unfolding multi_length
 returns-in_err-type_fault-clause-value c =
     let p = err_from_is_err_and c.from_residual.result c.from_residual.ensures.1 in
-    rw (p.1, p.2, ← c.requires.n_value)
+    rw (p.1, p.2)
     (part-stopped _ _ _
     (walk-stops c.loop-i.invariant (omega arith) c.length_at-announced.ensures
     c.in_err-type_fault.ensures (refused _)))
@@ -57,10 +57,7 @@ loop-i-preserved c =
 
 pub returns-clause-value : goal.returns-clause-value
 returns-clause-value c =
-    rw (← c.requires.n_value)
-    (part-taken _ _ _ (walk-faults c.loop-i.invariant (omega arith)) (walk_ends c.loop-i.invariant (omega arith)))
+    part-taken _ _ _ (walk-faults c.loop-i.invariant (omega arith)) (walk_ends c.loop-i.invariant (omega arith))
 
 pub returns-clause-ids_after : goal.returns-clause-ids_after
-unfolding declared_ids
-returns-clause-ids_after c =
-    λ z. rw (← c.requires.n_value) (walk-declared c.loop-i.invariant (omega arith) (omega arith))
+returns-clause-ids_after c = λ z. walk-declared c.loop-i.invariant (omega arith) (omega arith)

@@ -1,15 +1,17 @@
 -- `search::horspool::common` meets its contract. Assumes nothing.
-use Rattle.std.proofs.Common.{◌≡◌, ◌∙◌, sym, refl, ◌+◌, ◌*◌, arith}
-use Rattle.search.proofs.Shifts.{agreed-stretch, agreed-rest, common-most}
+use Rattle.std.proofs.Common.{◌∙◌, sym, arith}
+use Rattle.search.proofs.Shifts.{agreed-none, agreed-stretch, agreed-rest, common-most}
 use Rattle.search.proofs.horspool.common.Goals as goal
 
-pub loop-i-preserved : goal.loop-i-preserved
-loop-i-preserved c =
-    let end : 16 * (c.loop-i.i + 1) ≡ c.loop-i.at + 16 = omega arith in
-    (refl, rw end (agreed-stretch c.args.mark.now c.args.s.now c.loop-i.at 16 (omega arith) (omega arith) (sym c.same_bytes.ensures ∙ c.if-not-same_bytes.false) c.loop-i.invariant.1))
+pub loop-at-init : goal.loop-at-init
+loop-at-init c = (omega arith, agreed-none c.args.mark.now c.args.s.now)
+
+pub loop-at-preserved : goal.loop-at-preserved
+loop-at-preserved c =
+    (omega arith, agreed-stretch c.args.mark.now c.args.s.now c.loop-at.at 16 (omega arith) (omega arith) (sym c.same_bytes.ensures ∙ c.if-not-same_bytes.false) c.loop-at.invariant.1)
 
 pub returns : goal.returns
-returns c = agreed-rest c.args.mark.now c.args.s.now c.loop-i.at c.common_single.result c.loop-i.invariant.1 c.common_single.ensures
+returns c = agreed-rest c.args.mark.now c.args.s.now c.loop-at.at c.common_single.result c.loop-at.invariant.1 c.common_single.ensures
 
 pub overflow_add-result : goal.overflow_add-result
 overflow_add-result c = omega (arith, returns c, common-most c.args.mark.now c.args.s.now)

@@ -1,7 +1,11 @@
--- `search::horspool::common` meets its contract. The loop's invariant: the stretches before `at` agree. Assumes nothing.
-use Rattle.std.proofs.Common.{◌≡◌, ◌*◌}
+-- `search::horspool::common` meets its contract. The loop's invariant: the first `at` bytes agree. The measure is what is left
+-- of the mark. Assumes nothing.
+use Rattle.std.proofs.Common.{◌-◌, ◌≤◌, length}
 use Rattle.search.proofs.Shifts.{Agreed}
 use Rattle.search.proofs.horspool.common.Given as goal
 
-abbrev pub invariant-loop-i : goal.invariant-loop-i
-invariant-loop-i l = (l.at ≡ 16 * l.i) × Agreed l.mark l.s l.at
+abbrev pub invariant-loop-at : goal.invariant-loop-at
+invariant-loop-at l = (l.at ≤ length l.mark) × Agreed l.mark l.s l.at
+
+abbrev pub decreases-loop-at : goal.decreases-loop-at
+decreases-loop-at l = length l.mark - l.at

@@ -9,4 +9,4 @@ pub row_between-requires : goal.row_between-requires
 row_between-requires c = record { i_le_k = omega arith; k_in_bounds = c.requires.i_in_bounds; place_value = at_first c.args.source }
 
 pub returns : goal.returns
-returns c = c.is_some.ensures ∙ between_known c.args.serial _ c.args.i c.requires.i_in_bounds _ c.row_between.ensures
+returns c = c.is_ok.ensures.value ∙ between_known c.args.serial _ c.args.i c.requires.i_in_bounds _ c.row_between.ensures

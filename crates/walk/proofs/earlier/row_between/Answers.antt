@@ -45,4 +45,4 @@ loop-row-preserved c =
 pub returns : goal.returns
 returns c =
     let all : c.loop-row.row ≡ c.args.k = omega (arith, c.loop-row-test.false, c.requires.i_le_k) in
-    between_none c.args.serial _ c.args.i c.args.k (rw all at c.loop-row.invariant.1)
+    between_none c.args.serial _ c.args.i c.args.k (rw all at c.loop-row.invariant.1) _ (rw all at c.loop-row.invariant.0)

@@ -1,5 +1,6 @@
 -- `walk::walks::row_with` meets its contract. Assumes nothing.
 use mathlib.Core.Path.{sym, ◌∙◌}
+use Rattle.std.specs.declared.result.Result.TheVariants.{Err}
 use Rattle.walk.proofs.Index.{index-long}
 use Rattle.walk.proofs.Loops.{between_known, between-there, seen-passed, numbered-here, numbered-none}
 use Rattle.walk.proofs.Cursors.{There, there, stops}
@@ -19,20 +20,20 @@ pub invariant_of-source : goal.invariant_of-source
 invariant_of-source c =
     let w = own (goal.at.invariant_of-source c).Start in record { header_is = w.behind.header_is; whole = w.behind.whole }
 
-pub row_before-before-requires : goal.row_before-before-requires
-row_before-before-requires c =
-    let w = own (goal.at.row_before-before-requires c).Start in
+pub row_before-requires : goal.row_before-requires
+row_before-requires c =
+    let w = own (goal.at.row_before-requires c).Start in
     record { m_le_i = c.requires.m_le_row; i_in_bounds = w.behind.few; place_value = c.requires.place_value }
 
-pub returns-then-is_some : goal.returns-then-is_some
-returns-then-is_some c =
-    let w = own (goal.at.returns-then-is_some c).Start in
-    between-there c.args.serial _ _ w.behind.few _ c.row_before-before.ensures w.begun (sym c.is_some.ensures ∙ c.if-is_some.true)
+pub returns-in-Ok : goal.returns-in-Ok
+returns-in-Ok c =
+    let w = own (goal.at.returns-in-Ok c).Start in
+    between-there c.args.serial _ 0 _ c.in-Ok.before c.in-Ok.ensures w.begun w.behind.few
 
 pub loop-c-init : goal.loop-c-init
 loop-c-init c =
     let w = own (goal.at.loop-c-init c).Start in
-    (c.requires.at, sym (between_known c.args.serial _ _ w.behind.few _ c.row_before-before.ensures) ∙ sym c.is_some.ensures ∙ c.if-is_some.false)
+    (c.requires.at, sym (between_known c.args.serial _ _ w.behind.few (Err c.in_default.field-0) (sym c.in_default.is ∙ c.row_before.ensures)))
 
 pub serial_at-requires : goal.serial_at-requires
 serial_at-requires c =
