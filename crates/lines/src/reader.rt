@@ -80,7 +80,7 @@ fn field_at(s: &[u8], at: usize, i: usize, part: u8) -> Result<usize, Refused>
     taken(lf_fault(s, at), at + 1)
 }
 
-// A fixed text at a place; the comparison stops at the first difference.
+// A fixed text at a place: whether the bytes there begin with it.
 fn fixed_fault(s: &[u8], at: usize, text: &[u8]) -> Result<(), Refusal>
     requires { at ≤ length s.now }
     ensures { fault_in result ≡ fault (fixed text.now) (drop at s.now) }

@@ -1,5 +1,6 @@
 // The reader's runs: "Fields are read in file order", the first fault counts. Each field is read by `read_field`,
-// at the position that the field before it gave; a run answers the position behind it, refused or not.
+// at the position that the field before it gave. A line answers the position behind it, refused or not; several lines answer
+// their first fault.
 ghost use Rattle.std.specs.Prelude.{◌≡◌, [], ◌∷◌, ◌+◌, ◌≤◌, ◌<◌, length, drop};
 ghost use Rattle.metafile.specs.Refusals.{fault_in};
 ghost use Rattle.metafile.specs.Lines.{opened, lines_of, size, run};

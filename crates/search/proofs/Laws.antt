@@ -7,11 +7,11 @@
 --     passed-..    such a place where the search begins, one place on, several, on to a byte; what is found there, from there on, at
 --                  the end; part-.. the part from there on
 --     byte-..      the search for one byte, from place to place and in the first bytes
---     in-any       whether it occurs, as `contains` of the library tests it
+--     any-..       whether it occurs, all bytes compared
 --     inside-..    the first place inside the first of two runs, and what the search in both is from it
 -- Assumes nothing.
 use Prim.Native.Nat.{ℕ, zero, suc, ◌+◌, ◌-◌, ◌≤◌, ◌<◌, min}
-use mathlib.Core.Bool.{Bool, true, false, ◌&&◌, and-true, and-false}
+use mathlib.Core.Bool.{Bool, true, false, ◌&&◌, ◌||◌, and-true, and-false}
 use mathlib.Core.Path.{◌≡◌, refl, sym, ap, ◌∙◌}
 use mathlib.Core.List.{List, [], ◌∷◌, ◌++◌, append-nil}
 use native.Mathlib.Nat.{zero-add}
@@ -22,7 +22,6 @@ use lib.ListN.{length, take, drop, get_or, length-append, length-drop, length-ta
 use lib.Seq.{drop-cons, drop-append-le, drop-drop, take-append-add, get_or-drop, get_or-take}
 use borrow.Author.Tests.{eq-eqb, ne_eqb, eqb-true}
 use Rattle.std.specs.Cmp.Lexicographic.{pointwise}
-use Rattle.std.specs.List.{list_any}
 use Rattle.metafile.specs.Bytes.{same, starts, find}
 use Rattle.search.specs.Shifts.{is_in}
 use Rattle.laws.proofs.First.{test, untrue, or_left, or_right}
@@ -196,10 +195,22 @@ byte-within b s p k l e = omega (arith, find-fits (b ∷ []) (drop p s), length-
 
 -- ---- a byte that occurs or not
 
-pub in-any : (b : ℕ) (s : List ℕ) → list_any (λ x. eqb x b) s ≡ is_in b s
+pub any-begin : (b : ℕ) (s : List ℕ) → is_in b s ≡ (false || is_in b (drop 0 s))
+any-begin b s = refl
+
+any_at : (b : ℕ) (s : List ℕ) (i : ℕ) → i < length s → is_in b (drop i s) ≡ (eqb (get_or s i 0) b || is_in b (drop (i + 1) s))
 unfolding is_in
-in-any b [] = refl
-in-any b (x ∷ s) = rw (in-any b s)
+any_at b s i l = rw (drop-cons s i 0, add-one i)
+
+pub any_next : (b : ℕ) (s : List ℕ) (i : ℕ) (found : Bool) → i < length s → is_in b s ≡ (found || is_in b (drop i s))
+    → is_in b s ≡ ((found || eqb (get_or s i 0) b) || is_in b (drop (i + 1) s))
+any_next b s i true l e = e
+any_next b s i false l e = e ∙ any_at b s i l
+
+pub any-end : (b : ℕ) (s : List ℕ) (i : ℕ) (found : Bool) → length s ≤ i → is_in b s ≡ (found || is_in b (drop i s)) → found ≡ is_in b s
+unfolding is_in
+any-end b s i true l e = sym e
+any-end b s i false l e = sym (e ∙ rw (drop_of_length-le s l))
 
 pub in-at : (m : List ℕ) (i : ℕ) → i < length m → is_in (get_or m i 0) m ≡ true
 unfolding is_in
@@ -263,6 +274,17 @@ pub inside-begin : (m s t : List ℕ) (k : ℕ) → 0 < length m → k ≡ find 
 inside-begin m s t k n e =
     let q = passed-byte m s t 0 k n (omega arith) (passed_none m (s ++ t)) e in
     (omega (arith, find-fits (get_or m 0 0 ∷ []) s), rw zero-add at q)
+
+-- a mark of one byte
+single_is : (x : ℕ) (s t : List ℕ) → find (x ∷ []) s ≡ min (find (x ∷ []) (s ++ t)) (length s)
+unfolding find starts same
+single_is x [] t = omega arith
+single_is x (y ∷ s) t = test (eqb y x) (λ q. rw q (omega arith)) (λ q. rw q (omega (arith, single_is x s t)))
+
+pub inside-single : (m s t : List ℕ) (k : ℕ) → length m ≡ 1 → k ≡ find (get_or m 0 0 ∷ []) s → k ≡ min (find m (s ++ t)) (length s)
+inside-single [] s t k n e = absurd (omega arith)
+inside-single (x ∷ []) s t k n e = e ∙ single_is x s t
+inside-single (x ∷ y ∷ m) s t k n e = absurd (omega arith)
 
 pub inside-here : (m s t : List ℕ) (p : ℕ) → p < length s → Passed m (s ++ t) p
     → starts m (take (length s - p) (drop p s) ++ t) ≡ true → p ≡ min (find m (s ++ t)) (length s)

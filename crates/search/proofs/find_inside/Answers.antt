@@ -2,7 +2,7 @@
 -- text or at its end. The measure is what is left of the text. Assumes nothing.
 use mathlib.Core.Path.{sym, ◌∙◌}
 use native.Mathlib.Omega.{arith}
-use Rattle.search.proofs.Laws.{inside-none, inside-begin, inside-here, inside-next, inside-end}
+use Rattle.search.proofs.Laws.{inside-none, inside-begin, inside-single, inside-here, inside-next, inside-end}
 use Rattle.search.proofs.find_inside.Goals as goal
 
 pub returns-then-mark-eq0 : goal.returns-then-mark-eq0
@@ -17,6 +17,11 @@ pub loop-p-init : goal.loop-p-init
 loop-p-init c =
     let args = c.args in
     inside-begin args.mark.now args.text.now args.tail.now c.find_byte-p.result (omega arith) c.find_byte-p.ensures
+
+pub returns-then-mark-eq1 : goal.returns-then-mark-eq1
+returns-then-mark-eq1 c =
+    let args = c.args in
+    inside-single args.mark.now args.text.now args.tail.now c.find_byte-p.result c.if-mark-eq1.true c.find_byte-p.ensures
 
 pub slice_bounds-begins_across-count : goal.slice_bounds-begins_across-count
 slice_bounds-begins_across-count c = omega arith
